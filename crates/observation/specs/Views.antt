@@ -1,0 +1,53 @@
+-- The tests by which an entry and a record are looked up in the views of a table, the entry that a write leaves, and the records that
+-- remembering leaves.
+use Prim.Native.Nat.{ℕ}
+use mathlib.Core.Bool.{Bool, true, false, cond, _||_}
+use mathlib.Core.List.{List}
+use mathlib.Core.Option.{Option, none, some}
+use lib.Dec.{eqb, ltb}
+use Rattle.words.specs.Words.{wordOf, within, owns, validRecord}
+use Rattle.words.specs.declared.Found.{Found}
+use Rattle.words.specs.declared.Found.the-variants.{At, Nothing}
+use Rattle.words.specs.declared.KeyRange.{KeyRange}
+use Rattle.words.specs.declared.SceneKey.{SceneKey}
+use Rattle.slots.specs.Slots.{SceneEntry}
+use Rattle.scenes.specs.Table.{Table, recordsIn}
+use Rattle.observation.specs.Lists.{has, put}
+
+-- ---- tests
+
+-- the entry of a key word
+abbrev pub keyIs : ℕ → SceneEntry → Bool
+keyIs k x = eqb (x .key) k
+
+-- an entry of a range
+abbrev pub holds : KeyRange → SceneEntry → Bool
+holds r x = within r (x .key)
+
+-- a record of a fabric, on an endpoint
+abbrev pub ownedBy : ℕ → ℕ → ℕ → Bool
+ownedBy fabric endpoint word = owns word fabric endpoint
+
+-- ---- positions
+
+-- whether something was found
+abbrev pub isAt : Found → Bool
+isAt (At p) = true
+isAt Nothing = false
+
+-- what stands where something was found
+abbrev pub foundAt : {A : Type 0} → (ℕ → A) → Found → Option A
+foundAt g (At p) = some (g p)
+foundAt g Nothing = none
+
+-- ---- writes
+
+abbrev pub entryOf : SceneKey → ℕ → List ℕ → SceneEntry
+entryOf key time ext = record { key = wordOf key; time = time; fields = ext }
+
+-- the records with one that is now its fabric's: in the place of the fabric's, else behind the others, else dropped
+abbrev pub withRecord : SceneKey → Table → List ℕ
+withRecord key t =
+    cond (has (ownedBy (key .fabric) (key .endpoint)) (recordsIn t) || ltb (t .state .recorded) (t .state .size))
+    (put (ownedBy (key .fabric) (key .endpoint)) (validRecord key) (recordsIn t))
+    (recordsIn t)

@@ -1,0 +1,16 @@
+-- `records::is_owned` meets its contract. Assumes nothing.
+use borrow.Author.Needs.{needs}
+use Rattle.records.proofs.is_owned.Statement.{statement}
+use Rattle.records.proofs.is_owned.Tie as tie
+
+key-of-record-requires : tie.Need-key-of-record-requires
+key-of-record-requires c κs = search needs
+
+fabric-of-requires : tie.Need-fabric-of-requires
+fabric-of-requires c κs = search needs
+
+returns : tie.Need-returns
+returns c = rw (c .fabric-of .ensures, c .before .key-of-record .ensures)
+
+pub is-owned-spec : {M : Type 1} → statement M
+is-owned-spec = tie.close (tie.spec key-of-record-requires fabric-of-requires returns)

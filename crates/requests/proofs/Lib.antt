@@ -1,0 +1,2 @@
+-- `Laws` has the laws of the first refusal.
+pub mod Laws

@@ -1,0 +1,23 @@
+-- `requests::group_gate` meets its contract. Assumes nothing.
+use Rattle.requests.specs.Requests.{groupGate, firstRefusal, sourceGate}
+use Rattle.requests.proofs.Laws.{next-last}
+use borrow.Author.Needs.{needs}
+use Rattle.requests.proofs.group_gate.Statement.{statement}
+use Rattle.requests.proofs.group_gate.Tie as tie
+
+fabric-gate-requires : tie.Need-fabric-gate-requires
+fabric-gate-requires c κs = search needs
+
+source-gate-requires : tie.Need-source-gate-requires
+source-gate-requires c κs = search needs
+
+first-requires : tie.Need-first-requires
+first-requires c κs = search needs
+
+returns : tie.Need-returns
+unfolding groupGate firstRefusal
+returns c = let a = c .before .before .before .args in cc (next-last (sourceGate (a .key .group) (a .member)))
+
+pub group-gate-spec : {M : Type 1} → statement M
+group-gate-spec =
+    tie.close (tie.spec fabric-gate-requires source-gate-requires first-requires returns)

@@ -1,0 +1,43 @@
+-- `ScenesState::invalidate_current` meets its contract. Assumes nothing.
+use mathlib.Core.Path.{sym, _∙_}
+use Rattle.scenes.specs.Current.{invalidateCurrent}
+use borrow.Author.Needs.{needs}
+use Rattle.scenes.proofs.ScenesState.invalidate_current.Statement.{statement}
+use Rattle.scenes.proofs.ScenesState.invalidate_current.Tie as tie
+
+clear-requires : tie.Need-clear-requires
+clear-requires c κs = search needs
+
+bump-info-dataver-requires : tie.Need-bump-info-dataver-requires
+bump-info-dataver-requires c κs = search needs
+
+same-length : tie.Need-same-length
+same-length c = search needs
+
+returns : tie.Need-returns
+unfolding invalidateCurrent
+returns c =
+    let call = c .before .before .before .before .clear in
+    let hit = sym (call .ensures .0) ∙ c .before .if1 .taken in
+    simp (hit, c .bump-info-dataver .ensures, call .ensures .1)
+
+same-length-2 : tie.Need-same-length-2
+same-length-2 c = search needs
+
+returns-2 : tie.Need-returns-2
+unfolding invalidateCurrent
+returns-2 c =
+    let call = c .before .before .before .clear in
+    let none = sym (call .ensures .0) ∙ c .if1 .left in
+    simp (none, call .ensures .1)
+
+pub invalidate-current-spec : {M : Type 1} → statement M
+invalidate-current-spec =
+    tie.close
+    (tie.spec
+    clear-requires
+    bump-info-dataver-requires
+    same-length
+    returns
+    same-length-2
+    returns-2)

@@ -1,0 +1,5 @@
+pub mod Table
+pub mod Sound
+pub mod Capacity
+pub mod Current
+pub mod Change

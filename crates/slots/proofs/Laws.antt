@@ -1,0 +1,224 @@
+-- The laws of what is read of the lent lists and written over them. Assumes nothing.
+use Prim.Native.Nat.{ℕ, suc, _+_, _*_, _-_, _^_, _≤_, _<_}
+use mathlib.Core.Path.{_≡_, refl, sym, ap, _∙_}
+use mathlib.Core.Bool.{Bool, true, false, not, _&&_}
+use mathlib.Core.List.{List, [], _∷_, _++_, map, append-assoc, append-nil, map-append}
+use native.Mathlib.Numerals.{add-one}
+use native.Mathlib.Nat.{zero-add}
+use native.Mathlib.Omega.{arith}
+use lib.Dec.{ltb, leb}
+use borrow.Author.Tests.{lt-ltb, le-ltb, le-leb, lt-leb}
+use lib.ListN.{length, take, drop, getD, set, length-append, length-set, length-drop, length-map}
+use lib.Seq.{paste, paste-zero, paste-suc, drop-paste, length-paste, drop-at, take-length, length-take-le, take-suc-set, drop-set-lt, append-snoc, set-split, drop-drop, take-append-seam, drop-append-seam, getD-drop, getD-take}
+use Rattle.words.proofs.Tests.{and-intro, and-false}
+use Rattle.words.proofs.Below.{kept-none, kept-hit, kept-miss, kept-le, kept-under}
+use Rattle.words.specs.Constants.{stride}
+use Rattle.words.specs.Words.{within, fabricOf}
+use Rattle.words.specs.declared.KeyRange.{KeyRange}
+use Rattle.slots.specs.Slots.{Slots, keySound, part, overlay, laid, chunks, gathered, outside, copySlot}
+
+-- ---- a sound key word, by two comparisons
+
+pub key-sound : (key : ℕ) → 2 ^ 40 ≤ key → key < 2 ^ 48 → keySound key ≡ true
+key-sound key low high =
+    and-intro (ltb key (2 ^ 48)) (leb 1 (fabricOf key)) (lt-ltb key (2 ^ 48) high) (le-leb 1 (fabricOf key) (omega arith))
+
+pub key-low : (key : ℕ) → key < 2 ^ 40 → keySound key ≡ false
+key-low key low =
+    ap (λ (b : Bool). ltb key (2 ^ 48) && b) (lt-leb 1 (fabricOf key) (omega arith)) ∙ and-false (ltb key (2 ^ 48))
+
+pub key-high : (key : ℕ) → 2 ^ 48 ≤ key → keySound key ≡ false
+key-high key high = ap (λ (b : Bool). b && leb 1 (fabricOf key)) (le-ltb key (2 ^ 48) high)
+
+-- ---- lists that are alike from a position on
+
+pub same-drop : (a b : List ℕ) (m k : ℕ) → m ≤ k → drop m a ≡ drop m b → drop k a ≡ drop k b
+same-drop a b m k h e =
+    let q : m + (k - m) ≡ k = omega arith in
+    rw (← q, ← drop-drop (k - m) m a, ← drop-drop (k - m) m b, e)
+
+same-getD : (a b : List ℕ) (m k : ℕ) → m ≤ k → drop m a ≡ drop m b → getD a k 0 ≡ getD b k 0
+same-getD a b m k h e =
+    let q : m + (k - m) ≡ k = omega arith in
+    rw (← q, ← getD-drop m a (k - m) 0, ← getD-drop m b (k - m) 0, e)
+
+pub getD-part : (l : List ℕ) (from n i : ℕ) → i < n → getD (part from n l) i 0 ≡ getD l (from + i) 0
+getD-part l from n i h = getD-take n (drop from l) i 0 h ∙ getD-drop from l i 0
+
+pub length-part : (l : List ℕ) (from n : ℕ) → from + n ≤ length l → length (part from n l) ≡ n
+length-part l from n h = length-take-le n (drop from l) (omega (arith, length-drop from l))
+
+-- ---- what is written over a list
+
+-- the copy of a whole list
+paste-overlay : (old new : List ℕ) (at : ℕ) → paste old at new (length new) ≡ overlay at new old
+unfolding overlay
+paste-overlay old new at = rw (take-length new)
+
+pub length-overlay : (old new : List ℕ) (at : ℕ) → at + length new ≤ length old → length (overlay at new old) ≡ length old
+length-overlay old new at h = ap length (sym (paste-overlay old new at)) ∙ length-paste old at new (length new) h (omega arith)
+
+-- what stands behind what was written
+pub overlay-behind : (at : ℕ) (new old : List ℕ) → at ≤ length old → drop (at + length new) (overlay at new old) ≡ drop (at + length new) old
+unfolding overlay
+overlay-behind at new old h =
+    drop-at (take at old ++ new) (drop (at + length new) old) (at + length new)
+    (length-append (take at old) new ∙ ap (λ (k : ℕ). k + length new) (length-take-le at old h))
+
+set-overlay : (l : List ℕ) (i v : ℕ) → i < length l → set l i v ≡ overlay i (v ∷ []) l
+unfolding overlay
+set-overlay l i v h = set-split l i v h ∙ sym (append-snoc (take i l) v (drop (suc i) l)) ∙ rw (add-one i)
+
+-- an element and then a list behind it
+pub overlay-set : (old new : List ℕ) (at v : ℕ) → at < length old → overlay (at + 1) new (set old at v) ≡ overlay at (v ∷ new) old
+unfolding overlay
+overlay-set old new at v h =
+    let e : at + 1 + length new ≡ at + suc (length new) = omega arith in
+    let l : at < at + suc (length new) = omega arith in
+    rw (e, add-one at, take-suc-set old at v h, drop-set-lt (at + suc (length new)) old at v l, append-snoc (take at old) v new)
+
+-- ---- a loop that writes new over old, at its turn i
+
+pub record Copied (old : List ℕ) (at : ℕ) (new l : List ℕ) (i : ℕ) : Type 0 where
+  pub reached : i ≤ length new
+  pub fits : at + length new ≤ length old
+  pub same-length : length l ≡ length old
+  pub copied : l ≡ paste old at new i
+
+pub copied-none : (old : List ℕ) (at : ℕ) (new : List ℕ) → at + length new ≤ length old → Copied old at new old 0
+copied-none old at new h = record { reached = omega arith; fits = h; same-length = refl; copied = paste-zero old at new }
+
+module _ {old : List ℕ} {at : ℕ} {new l : List ℕ} {i : ℕ} (c : Copied old at new l i) where
+  pub copied-more : i < length new → Copied old at new (set l (at + i) (getD new i 0)) (i + 1)
+  copied-more h = record {
+    reached = omega arith;
+    fits = c .fits;
+    same-length = length-set l (at + i) (getD new i 0) ∙ c .same-length;
+    copied = ap (λ (k : List ℕ). set k (at + i) (getD new i 0)) (c .copied)
+        ∙ paste-suc old at new i 0 (omega arith) h
+        ∙ ap (λ (n : ℕ). paste old at new n) (sym (add-one i));
+  }
+
+  -- what it has not reached is what stood there
+  pub copied-past : (k : ℕ) → at + i ≤ k → getD l k 0 ≡ getD old k 0
+  copied-past k h =
+      ap (λ (m : List ℕ). getD m k 0) (c .copied)
+      ∙ same-getD (paste old at new i) old (at + i) k h (drop-paste old at new i (omega arith) (c .reached))
+
+  pub copied-all : length new ≤ i → l ≡ overlay at new old
+  copied-all h =
+      let e : i ≡ length new = omega arith in
+      c .copied ∙ ap (λ (n : ℕ). paste old at new n) e ∙ paste-overlay old new at
+
+-- ---- what is laid over the front of a list
+
+laid-overlay : (new old : List ℕ) → laid new old ≡ overlay 0 new old
+unfolding laid overlay
+laid-overlay new old = rw (zero-add (length new))
+
+pub laid-length : (new old : List ℕ) → length new ≤ length old → length (laid new old) ≡ length old
+laid-length new old h = ap length (laid-overlay new old) ∙ length-overlay old new 0 (omega arith)
+
+-- what stands behind it stays
+laid-behind : (new old : List ℕ) → drop (length new) (laid new old) ≡ drop (length new) old
+unfolding laid
+laid-behind new old = drop-append-seam new (drop (length new) old)
+
+-- the next part behind it
+laid-more : (new p old : List ℕ) (at : ℕ) → length new ≡ at → overlay at p (laid new old) ≡ laid (new ++ p) old
+unfolding laid overlay
+laid-more new p old at e =
+    let n : length new + length p ≡ length (new ++ p) = sym (length-append new p) in
+    rw (← e, take-append-seam new (drop (length new) old), ← n)
+    (ap (λ (l : List ℕ). new ++ p ++ l) (same-drop (laid new old) old (length new) (length new + length p) (omega arith) (laid-behind new old)))
+
+-- ---- the entries at some positions
+
+-- each of the positions is below n
+abbrev pub Under : List ℕ → ℕ → Type 0
+Under ps n = (k : ℕ) → k < length ps → getD ps k 0 < n
+
+abbrev pub picked : List ℕ → List ℕ → List ℕ
+picked l ps = map (λ k. getD l k 0) ps
+
+-- there are n entries, at least
+pub record Bounds (s : Slots) (n : ℕ) : Type 0 where
+  pub keys : n ≤ length (s .keys)
+  pub times : n ≤ length (s .times)
+  pub fields : n * stride ≤ length (s .fields)
+
+picked-more : (l ps : List ℕ) (i : ℕ) → length ps ≤ i → i < length l
+    → set (laid (picked l ps) l) (length ps) (getD (laid (picked l ps) l) i 0) ≡ laid (picked l (ps ++ (i ∷ []))) l
+picked-more l ps i h k =
+    let n : length (picked l ps) ≡ length ps = length-map ps (λ j. getD l j 0) in
+    let m : length (laid (picked l ps) l) ≡ length l = laid-length (picked l ps) l (omega arith) in
+    ap (λ (v : ℕ). set (laid (picked l ps) l) (length ps) v) (same-getD (laid (picked l ps) l) l (length (picked l ps)) i (omega arith) (laid-behind (picked l ps) l))
+    ∙ set-overlay (laid (picked l ps) l) (length ps) (getD l i 0) (omega arith)
+    ∙ laid-more (picked l ps) (getD l i 0 ∷ []) l (length ps) n
+    ∙ ap (λ (new : List ℕ). laid new l) (sym (map-append (λ j. getD l j 0) ps (i ∷ [])))
+
+pub length-chunks : (ps f : List ℕ) (n : ℕ) → Under ps n → n * stride ≤ length f → length (chunks ps f) ≡ length ps * stride
+unfolding chunks
+length-chunks [] f n u h = refl
+length-chunks (p ∷ ps) f n u h =
+    let l : p < n = u 0 (omega arith) in
+    let e : length (part (p * stride) stride f) ≡ stride = length-part f (p * stride) stride (omega arith) in
+    let r : length (chunks ps f) ≡ length ps * stride = length-chunks ps f n (λ k m. u (suc k) (omega arith)) h in
+    omega (arith, length-append (part (p * stride) stride f) (chunks ps f))
+
+chunks-more : (ps f : List ℕ) (i : ℕ) → chunks (ps ++ (i ∷ [])) f ≡ chunks ps f ++ part (i * stride) stride f
+unfolding chunks
+chunks-more [] f i = append-nil (part (i * stride) stride f)
+chunks-more (p ∷ ps) f i =
+    ap (λ (r : List ℕ). part (p * stride) stride f ++ r) (chunks-more ps f i)
+    ∙ sym (append-assoc (part (p * stride) stride f) (chunks ps f) (part (i * stride) stride f))
+
+pub gathered-none : (s : Slots) → s ≡ gathered [] s
+unfolding gathered chunks laid
+gathered-none s = refl
+
+-- a turn of the loop that keeps the entry at i
+pub gathered-more : {s : Slots} {n : ℕ} → Bounds s n → (ps : List ℕ) (i : ℕ) → Under ps i → length ps ≤ i → i < n → copySlot i (length ps) (gathered ps s) ≡ gathered (ps ++ (i ∷ [])) s
+unfolding gathered copySlot
+gathered-more {s} {n} b ps i u h l =
+    let f = s .fields in
+    let c : length (chunks ps f) ≡ length ps * stride = length-chunks ps f i u (omega arith) in
+    let moved : drop (i * stride) (laid (chunks ps f) f) ≡ drop (i * stride) f =
+    same-drop (laid (chunks ps f) f) f (length (chunks ps f)) (i * stride) (omega arith) (laid-behind (chunks ps f) f) in
+    λ d. record {
+      keys = picked-more (s .keys) ps i h (omega arith) d;
+      times = picked-more (s .times) ps i h (omega arith) d;
+      fields = (ap (λ (r : List ℕ). overlay (length ps * stride) (take stride r) (laid (chunks ps f) f)) moved
+          ∙ laid-more (chunks ps f) (part (i * stride) stride f) f (length ps * stride) c
+          ∙ ap (λ (new : List ℕ). laid new f) (sym (chunks-more ps f i))) d;
+    }
+
+-- the key word behind those that were gathered
+pub gathered-key : (ps : List ℕ) (i : ℕ) (s : Slots) → length ps ≤ i → getD (gathered ps s .keys) i 0 ≡ getD (s .keys) i 0
+unfolding gathered
+gathered-key ps i s h =
+    let n = length-map ps (λ k. getD (s .keys) k 0) in
+    same-getD (laid (picked (s .keys) ps) (s .keys)) (s .keys) (length (picked (s .keys) ps)) i (omega arith) (laid-behind (picked (s .keys) ps) (s .keys))
+
+-- ---- the positions that are kept
+
+module _ (keys : List ℕ) (r : KeyRange) where
+  pub outside-none : outside keys 0 r ≡ []
+  unfolding outside
+  outside-none = kept-none _
+
+  pub outside-keep : (i : ℕ) → within r (getD keys i 0) ≡ false → outside keys (i + 1) r ≡ outside keys i r ++ (i ∷ [])
+  unfolding outside
+  outside-keep i e = kept-hit _ i (ap not e)
+
+  pub outside-skip : (i : ℕ) → within r (getD keys i 0) ≡ true → outside keys (i + 1) r ≡ outside keys i r
+  unfolding outside
+  outside-skip i e = kept-miss _ i (ap not e)
+
+  pub outside-le : (n : ℕ) → length (outside keys n r) ≤ n
+  unfolding outside
+  outside-le n = kept-le _ n
+
+  pub outside-under : (n : ℕ) → Under (outside keys n r) n
+  unfolding outside
+  outside-under n = kept-under _ n

@@ -1,0 +1,176 @@
+// The lent slices of the entries: key words, times, and for each entry a length byte with room for its fields.
+use words::Found;
+use words::KeyRange;
+use words::KeyWord;
+use words::Limits;
+use words::Slot;
+ghost use mathlib.Core.Path.{_≡_};
+ghost use Prim.Native.Nat.{_+_, _*_, _<_, _≤_};
+ghost use lib.ListN.{length};
+ghost use Rattle.words.specs.Constants.{stride, maxFields};
+ghost use Rattle.slots.specs.Slots.{firstKey, countKeys, keysSound, lengthsSound, lengthAt, fieldsAt, overlay, slotsOf, putSlot, copySlot, lengthThen, part, outside, gathered};
+
+// The first of the first n positions that holds the key word.
+pub fn find(keys: &[u64], n: usize, key: u64) -> Found
+    requires { ⌜ n ≤ length (now keys) ⌝ }
+    ensures { λ r. ⌜ r ≡ firstKey (now (keys .entry)) n key ⌝ }
+{
+    let mut i = 0;
+    while i < n {
+        if keys[i] == key {
+            return Found::At(i);
+        }
+        i += 1;
+    }
+    Found::Nothing
+}
+
+// How many of the first n key words lie in a range.
+pub fn count(keys: &[u64], n: usize, range: KeyRange) -> usize
+    requires { ⌜ n ≤ length (now keys) ⌝ }
+    ensures { λ r. ⌜ r ≡ countKeys (now (keys .entry)) n range ⌝ }
+{
+    let mut count: usize = 0;
+    let mut i = 0;
+    while i < n {
+        if range.holds(keys[i]) {
+            count += 1;
+        }
+        i += 1;
+    }
+    count
+}
+
+// Whether each of the first n key words is sound: below 2^48, with a fabric from 1 to 255.
+pub fn keys_sound(keys: &[u64], n: usize) -> bool
+    requires { ⌜ n ≤ length (now keys) ⌝ }
+    ensures { λ r. ⌜ r ≡ keysSound (now (keys .entry)) n ⌝ }
+{
+    let mut i = 0;
+    while i < n {
+        let key = keys[i];
+        if key < KeyWord::FABRIC {
+            return false;
+        }
+        if KeyWord::END <= key {
+            return false;
+        }
+        i += 1;
+    }
+    true
+}
+
+// Whether each of the first n entries has at most as many field bytes as there is room for.
+pub fn lengths_sound(fields: &[u8], n: usize) -> bool
+    requires { ⌜ n * stride ≤ length (now fields) ⌝ }
+    ensures { λ r. ⌜ r ≡ lengthsSound (now (fields .entry)) n ⌝ }
+{
+    let mut i = 0;
+    while i < n {
+        if Limits::MAX_EXT_FIELDS_LEN < fields[i * Slot::STRIDE] as usize {
+            return false;
+        }
+        i += 1;
+    }
+    true
+}
+
+// The field bytes of the entry at a position, up to its length: a part of the lent slice.
+pub fn field_bytes(fields: &[u8], at: usize) -> &[u8]
+    requires { ⌜ at * stride + stride ≤ length (now fields) ⌝ }
+    requires { ⌜ lengthAt (now fields) at ≤ maxFields ⌝ }
+    ensures { λ r. ⌜ now r ≡ fieldsAt (now (fields .entry)) at ⌝ }
+{
+    let base = at * Slot::STRIDE;
+    let size = fields[base] as usize;
+    let from = base + 1;
+    &fields[from..from + size]
+}
+
+// Writes a length byte and as many bytes from base on.
+fn put_bytes(fields: &mut [u8], base: usize, ext: &[u8])
+    requires { ⌜ length (now ext) ≤ maxFields ⌝ }
+    requires { ⌜ base + stride ≤ length (now fields) ⌝ }
+    ensures { λ _. ⌜ now (fields .exit) ≡ overlay base (lengthThen (now (ext .entry))) (now (fields .entry)) ⌝ }
+{
+    fields[base] = ext.len() as u8;
+    let mut i = 0;
+    while i < ext.len() {
+        fields[base + 1 + i] = ext[i];
+        i += 1;
+    }
+}
+
+// Writes an entry at a position: its field bytes past the new length stay.
+pub fn put(
+    keys: &mut [u64],
+    times: &mut [u32],
+    fields: &mut [u8],
+    at: usize,
+    key: u64,
+    time: u32,
+    ext: &[u8],
+)
+    requires { ⌜ length (now ext) ≤ maxFields ⌝ }
+    requires { ⌜ at < length (now keys) ⌝ }
+    requires { ⌜ at < length (now times) ⌝ }
+    requires { ⌜ at * stride + stride ≤ length (now fields) ⌝ }
+    ensures { λ _. ⌜ slotsOf (now (keys .exit)) (now (times .exit)) (now (fields .exit)) ≡ putSlot at key time (now (ext .entry)) (slotsOf (now (keys .entry)) (now (times .entry)) (now (fields .entry))) ⌝ }
+{
+    keys[at] = key;
+    times[at] = time;
+    put_bytes(fields, at * Slot::STRIDE, ext);
+}
+
+// Copies the bytes of an entry from one place to an earlier one, or to the same.
+fn copy_bytes(fields: &mut [u8], from: usize, to: usize)
+    requires { ⌜ to ≤ from ⌝ }
+    requires { ⌜ from + stride ≤ length (now fields) ⌝ }
+    ensures { λ _. ⌜ now (fields .exit) ≡ overlay to (part from stride (now (fields .entry))) (now (fields .entry)) ⌝ }
+{
+    let mut i: usize = 0;
+    while i < Slot::STRIDE {
+        fields[to + i] = fields[from + i];
+        i += 1;
+    }
+}
+
+// Copies an entry with all its bytes to an earlier position, or to the same.
+pub fn copy_slot(keys: &mut [u64], times: &mut [u32], fields: &mut [u8], from: usize, to: usize)
+    requires { ⌜ to ≤ from ⌝ }
+    requires { ⌜ from < length (now keys) ⌝ }
+    requires { ⌜ from < length (now times) ⌝ }
+    requires { ⌜ from * stride + stride ≤ length (now fields) ⌝ }
+    ensures { λ _. ⌜ slotsOf (now (keys .exit)) (now (times .exit)) (now (fields .exit)) ≡ copySlot from to (slotsOf (now (keys .entry)) (now (times .entry)) (now (fields .entry))) ⌝ }
+{
+    keys[to] = keys[from];
+    times[to] = times[from];
+    copy_bytes(fields, from * Slot::STRIDE, to * Slot::STRIDE);
+}
+
+// Drops those of the first n entries whose key word lies in a range: the others move to the front, in order. How many they are.
+pub fn retain(
+    keys: &mut [u64],
+    times: &mut [u32],
+    fields: &mut [u8],
+    n: usize,
+    range: KeyRange,
+) -> usize
+    requires { ⌜ n ≤ length (now keys) ⌝ }
+    requires { ⌜ n ≤ length (now times) ⌝ }
+    requires { ⌜ n * stride ≤ length (now fields) ⌝ }
+    ensures { λ r. ⌜ (r ≡ length (outside (now (keys .entry)) n range)) × (slotsOf (now (keys .exit)) (now (times .exit)) (now (fields .exit)) ≡ gathered (outside (now (keys .entry)) n range) (slotsOf (now (keys .entry)) (now (times .entry)) (now (fields .entry)))) ⌝ }
+{
+    let mut i = 0;
+    let mut j = 0;
+    while i < n {
+        if range.holds(keys[i]) {
+            i += 1;
+        } else {
+            copy_slot(keys, times, fields, i, j);
+            i += 1;
+            j += 1;
+        }
+    }
+    j
+}

@@ -1,0 +1,78 @@
+-- The laws of Booleans, of numbers as tests, and of lists of conditions. Assumes nothing.
+use Prim.Native.Nat.{ℕ, _+_, _-_, _≤_, _<_}
+use mathlib.Core.Path.{_≡_, refl, sym, ap, _∙_}
+use mathlib.Core.Bool.{Bool, true, false, not, _&&_, _||_, false≢true}
+use mathlib.Core.List.{List, [], _∷_}
+use native.Mathlib.Omega.{arith}
+use lib.Dec.{ltb, leb, eqb}
+use borrow.Author.Tests.{ltb-true, ltb-false, lt-ltb, le-ltb, eqb-true, eqb-false, eq-eqb, ne-eqb}
+use Rattle.words.specs.Conditions.{allOf}
+
+pub and-left : (a b : Bool) → (a && b) ≡ true → a ≡ true
+and-left true b h = refl
+and-left false b h = h
+
+pub and-right : (a b : Bool) → (a && b) ≡ true → b ≡ true
+and-right true b h = h
+and-right false b h = absurd (false≢true h)
+
+pub and-intro : (a b : Bool) → a ≡ true → b ≡ true → (a && b) ≡ true
+and-intro true b h k = k
+and-intro false b h k = h
+
+pub and-false : (a : Bool) → (a && false) ≡ false
+and-false true = refl
+and-false false = refl
+
+pub and-true : (a : Bool) → (a && true) ≡ a
+and-true true = refl
+and-true false = refl
+
+pub or-false : (a : Bool) → (a || false) ≡ a
+or-false true = refl
+or-false false = refl
+
+pub or-true : (a : Bool) → (a || true) ≡ true
+or-true true = refl
+or-true false = refl
+
+-- two tests that hold under the same condition are equal
+pub same-test : (a b : Bool) → (a ≡ true → b ≡ true) → (b ≡ true → a ≡ true) → a ≡ b
+same-test true true f g = refl
+same-test true false f g = sym (f refl)
+same-test false true f g = g refl
+same-test false false f g = refl
+
+-- a difference against a sum
+pub shift-ltb : (lo w n : ℕ) → lo ≤ w → ltb (w - lo) n ≡ ltb w (lo + n)
+shift-ltb lo w n h =
+    same-test (ltb (w - lo) n) (ltb w (lo + n))
+    (λ e. let k = ltb-true (w - lo) n e in lt-ltb w (lo + n) (omega arith))
+    (λ e. let k = ltb-true w (lo + n) e in lt-ltb (w - lo) n (omega arith))
+
+-- ---- lists of conditions
+
+pub all-head : (b : Bool) (bs : List Bool) → allOf (b ∷ bs) ≡ true → b ≡ true
+unfolding allOf
+all-head b bs e = and-left b (allOf bs) e
+
+pub all-tail : (b : Bool) (bs : List Bool) → allOf (b ∷ bs) ≡ true → allOf bs ≡ true
+unfolding allOf
+all-tail b bs e = and-right b (allOf bs) e
+
+pub all-none : allOf [] ≡ true
+unfolding allOf
+all-none = refl
+
+pub all-more : (b : Bool) (bs : List Bool) → b ≡ true → allOf bs ≡ true → allOf (b ∷ bs) ≡ true
+unfolding allOf
+all-more b bs h k = and-intro b (allOf bs) h k
+
+-- the first condition that fails decides
+pub all-fails : (b : Bool) (bs : List Bool) → b ≡ false → allOf (b ∷ bs) ≡ false
+unfolding allOf
+all-fails b bs h = ap (λ (c : Bool). c && allOf bs) h
+
+pub all-passes : (b : Bool) (bs : List Bool) → b ≡ true → allOf (b ∷ bs) ≡ allOf bs
+unfolding allOf
+all-passes b bs h = ap (λ (c : Bool). c && allOf bs) h

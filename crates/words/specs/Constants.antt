@@ -1,0 +1,87 @@
+-- The numbers that document 01 names, under one name each: statuses, faults, limits. The code has them as constants of a type.
+use Prim.Native.Nat.{ℕ}
+
+-- statuses: "Commands" and "Who causes which refusal"
+abbrev pub success : ℕ
+success = 0
+
+abbrev pub invalidCommand : ℕ
+invalidCommand = 0x85
+
+abbrev pub constraintError : ℕ
+constraintError = 0x87
+
+abbrev pub insufficientSpace : ℕ
+insufficientSpace = 0x89
+
+abbrev pub notFound : ℕ
+notFound = 0x8B
+
+-- faults: fabric 0
+abbrev pub noFabric : ℕ
+noFabric = 1
+
+-- membership failed when consulted
+abbrev pub membershipFailed : ℕ
+membershipFailed = 2
+
+-- captured bytes too long
+abbrev pub captureTooLong : ℕ
+captureTooLong = 3
+
+abbrev pub applyFailed : ℕ
+applyFailed = 4
+
+-- info asked for one list element
+abbrev pub singleElement : ℕ
+singleElement = 5
+
+-- table not sound
+abbrev pub unsound : ℕ
+unsound = 6
+
+-- pair byte above 2
+abbrev pub badPair : ℕ
+badPair = 7
+
+-- scene list buffer shorter than the list
+abbrev pub listTooLong : ℕ
+listTooLong = 8
+
+-- pair bytes: the attribute is not scenable, or it is of a cluster that is not known
+abbrev pub notScenable : ℕ
+notScenable = 0
+
+abbrev pub clusterUnknown : ℕ
+clusterUnknown = 2
+
+-- scene ids that no command may name
+abbrev pub globalScene : ℕ
+globalScene = 0
+
+abbrev pub reservedScene : ℕ
+reservedScene = 255
+
+-- the longest transition time, in milliseconds
+abbrev pub maxTime : ℕ
+maxTime = 60000000
+
+-- M: the most field bytes of a scene
+abbrev pub maxFields : ℕ
+maxFields = 128
+
+-- the lent bytes of an entry: a length, then 128 field bytes
+abbrev pub stride : ℕ
+stride = 129
+
+-- what a store appends to captured bytes
+abbrev pub endOfContainer : ℕ
+endOfContainer = 0x18
+
+-- the largest N
+abbrev pub maxScenes : ℕ
+maxScenes = 1024
+
+-- the most that an answer can say of a remaining capacity or of a count
+abbrev pub maxShown : ℕ
+maxShown = 255

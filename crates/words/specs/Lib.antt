@@ -1,0 +1,4 @@
+pub mod Constants
+pub mod Conditions
+pub mod Words
+pub mod Below
