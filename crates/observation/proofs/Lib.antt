@@ -1,10 +1,46 @@
--- `Counts` has the laws of the lists under tests, `Firsts` those at a position where a test holds first or nowhere, and `Positions` those
--- of the lists by their elements. `Views` says what is read of a table, `Sound` what a sound table has, and `Entries` and `Records`
+-- Views: `Counts` has the laws of the lists under tests, `Firsts` those at a position where a test holds first or nowhere, `Positions`
+-- those of the lists by their elements. `Views` says what is read of a table, `Sound` what a sound table has, `Entries` and `Records`
 -- what each change leaves of the views, and that the table stays sound.
+-- Calls: `Effects` and `Laws` say what each call does, over views; `Acts` and its kin prove it of the definitions, with
+-- `Losses`; `Calls` has all of it.
+-- The equivalence: `Invariant` and `Simulation` are about views alone, with `Bits`, `Choices`, `Order` and `CopyViews`; `Passed` has
+-- requests that are let through. `Respond` and `RespondCopy` say that commands keep both, `Probes` what tells two views apart. `Reach`, `Forward` and
+-- `Backward` bring this to tables, and `Theorem` has the theorems.
+-- What follows: `Readings` has counterexamples to nearby readings, `Removal` what a fabric's removal leaves, `Numbers` the numbers that
+-- each call can answer, `FieldBytes` whose fields an answered position has, `Buffers` what a
+-- scene list buffer counts for.
 pub mod Counts
 pub mod Firsts
 pub mod Positions
 pub mod Views
 pub mod Sound
+pub mod Effects
 pub mod Entries
 pub mod Records
+pub mod Laws
+pub mod Losses
+pub mod Acts
+pub mod ActsCommands
+pub mod ActsReads
+pub mod ActsCopy
+pub mod ActsLifecycle
+pub mod Calls
+pub mod Choices
+pub mod Bits
+pub mod Invariant
+pub mod Simulation
+pub mod Order
+pub mod CopyViews
+pub mod Passed
+pub mod Respond
+pub mod RespondCopy
+pub mod Probes
+pub mod Reach
+pub mod Forward
+pub mod Backward
+pub mod Theorem
+pub mod Readings
+pub mod Removal
+pub mod Numbers
+pub mod FieldBytes
+pub mod Buffers

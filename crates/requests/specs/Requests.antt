@@ -28,9 +28,13 @@ refuseIf b n = cond b n success
 abbrev pub fabricGate : ℕ → ℕ
 fabricGate fabric = refuseIf (eqb fabric 0) noFabric
 
--- 0x87, scene 0 or 255
+-- scene 0 or 255
+abbrev pub reserved : ℕ → Bool
+reserved scene = eqb scene globalScene || eqb scene reservedScene
+
+-- 0x87, a reserved scene
 abbrev pub sceneGate : ℕ → ℕ
-sceneGate scene = refuseIf (eqb scene globalScene || eqb scene reservedScene) constraintError
+sceneGate scene = refuseIf (reserved scene) constraintError
 
 -- 0x87, time above 60,000,000
 abbrev pub timeGate : ℕ → ℕ

@@ -3,3 +3,8 @@ pub mod Sound
 pub mod Capacity
 pub mod Current
 pub mod Change
+pub mod Answer
+pub mod Commands
+pub mod Copy
+pub mod Reads
+pub mod Lifecycle

@@ -1,12 +1,13 @@
 -- The head and the lent memory of a scene table, whole, and what of it members can see.
 -- Document 01, "Forms that change first".
 use Prim.Native.Nat.{ℕ, _+_, _*_, _%_, _^_, _≤_}
-use mathlib.Core.Bool.{Bool, cond}
+use mathlib.Core.Bool.{Bool, true, cond}
+use mathlib.Core.Path.{_≡_}
 use mathlib.Core.List.{List, map}
 use lib.ListN.{length, take}
 use Rattle.words.specs.Constants.{stride}
 use Rattle.words.specs.Below.{positions}
-use Rattle.slots.specs.Slots.{Slots, slotsOf, SceneEntry, entryAt}
+use Rattle.slots.specs.Slots.{Slots, slotsOf, SceneEntry, entryAt, lengthsSound}
 use Rattle.scenes.specs.declared.ScenesState.{ScenesState}
 
 pub record Table : Type 0 where
@@ -74,3 +75,15 @@ pub record Room (t : Table) : Type 0 where
   pub times : t .state .size ≤ length (t .slots .times)
   pub fields : t .state .size * stride ≤ length (t .slots .fields)
   pub records : t .state .size ≤ length (t .records)
+
+-- the same for the entries alone, whose lengths a copy reads
+pub record EntryRoom (e : Entries) : Type 0 where
+  pub entries : e .state .entries ≤ e .state .size
+  pub keys : e .state .size ≤ length (e .slots .keys)
+  pub times : e .state .size ≤ length (e .slots .times)
+  pub fields : e .state .size * stride ≤ length (e .slots .fields)
+  pub lengths : lengthsSound (e .slots .fields) (e .state .entries) ≡ true
+
+pub record CopyRoom (t : Table) : Type 0 where
+  pub entries : EntryRoom (record { state = t .state; slots = t .slots })
+  pub recorded : t .state .recorded ≤ length (t .records)

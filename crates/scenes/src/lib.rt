@@ -1,5 +1,9 @@
 // The scene table of Scenes Management: a head by value, and lent memory. The head's operations are its methods and hand it back.
+mod commands;
+mod copy;
 mod current;
+mod lifecycle;
+mod reads;
 mod table;
 
 ghost use mathlib.Core.Path.{_≡_};
@@ -15,6 +19,59 @@ pub struct ScenesState {
     pub recorded: usize,
     // The data version of FabricSceneInfo (`info_dataver`).
     pub dataver: u32,
+}
+
+// What a command answers: its status or fault, whether the host has to save the table, and the head.
+#[repr(C)]
+pub struct Outcome {
+    pub status: u8,
+    pub save: bool,
+    pub state: ScenesState,
+}
+
+// What a view, or the lookup of a recall, answers: the time and the entry's position. A refusal has time 0 and a position past any
+// table's entries.
+#[repr(C)]
+pub struct SceneRead {
+    pub status: u8,
+    pub time: u32,
+    pub at: usize,
+    pub state: ScenesState,
+}
+
+// What a membership read answers: the remaining capacity, and how many scene ids it wrote.
+#[repr(C)]
+pub struct ListRead {
+    pub status: u8,
+    pub remaining: u8,
+    pub len: usize,
+    pub state: ScenesState,
+}
+
+// What an info read answers: whether there is a row, and the row.
+#[repr(C)]
+pub struct InfoRead {
+    pub status: u8,
+    pub present: bool,
+    pub count: u8,
+    pub group: u16,
+    pub scene: u8,
+    pub valid: bool,
+    pub remaining: u8,
+    pub fabric: u8,
+    pub state: ScenesState,
+}
+
+// Whether the host applied a recalled scene.
+pub enum Applied {
+    Yes,
+    Failed,
+}
+
+// The transition time of a recall: the stored one, or the request's override.
+pub enum Transition {
+    Stored,
+    Given(u32),
 }
 
 impl ScenesState {

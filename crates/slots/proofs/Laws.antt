@@ -1,21 +1,23 @@
 -- The laws of what is read of the lent lists and written over them. Assumes nothing.
-use Prim.Native.Nat.{ℕ, suc, _+_, _*_, _-_, _^_, _≤_, _<_}
+use Prim.Native.Nat.{ℕ, zero, suc, _+_, _*_, _-_, _^_, _≤_, _<_}
 use mathlib.Core.Path.{_≡_, refl, sym, ap, _∙_}
-use mathlib.Core.Bool.{Bool, true, false, not, _&&_}
+use mathlib.Core.Bool.{Bool, true, false, not, cond, _&&_}
 use mathlib.Core.List.{List, [], _∷_, _++_, map, append-assoc, append-nil, map-append}
 use native.Mathlib.Numerals.{add-one}
-use native.Mathlib.Nat.{zero-add}
+use mathlib.Core.Logic.{⊎-elim}
+use native.Mathlib.Nat.{zero-add, le-of-suc-le-suc, eq-or-lt-of-le}
 use native.Mathlib.Omega.{arith}
 use lib.Dec.{ltb, leb}
 use borrow.Author.Tests.{lt-ltb, le-ltb, le-leb, lt-leb}
-use lib.ListN.{length, take, drop, getD, set, length-append, length-set, length-drop, length-map}
-use lib.Seq.{paste, paste-zero, paste-suc, drop-paste, length-paste, drop-at, take-length, length-take-le, take-suc-set, drop-set-lt, append-snoc, set-split, drop-drop, take-append-seam, drop-append-seam, getD-drop, getD-take}
+use lib.ListN.{length, take, drop, getD, set, length-append, length-set, length-drop, length-map, List·getD-append}
+use lib.Seq.{paste, paste-zero, paste-suc, drop-paste, length-paste, drop-at, drop-cons, take-length, length-take-le, take-suc-set, drop-set-lt, append-snoc, set-split, drop-drop, take-append-seam, drop-append-seam, getD-drop, getD-take}
 use Rattle.words.proofs.Tests.{and-intro, and-false}
 use Rattle.words.proofs.Below.{kept-none, kept-hit, kept-miss, kept-le, kept-under}
-use Rattle.words.specs.Constants.{stride}
-use Rattle.words.specs.Words.{within, fabricOf}
+use Rattle.words.specs.Below.{countBelow, keptBelow}
+use Rattle.words.specs.Constants.{stride, maxFields}
+use Rattle.words.specs.Words.{within, fabricOf, sceneOf}
 use Rattle.words.specs.declared.KeyRange.{KeyRange}
-use Rattle.slots.specs.Slots.{Slots, keySound, part, overlay, laid, chunks, gathered, outside, copySlot}
+use Rattle.slots.specs.Slots.{Slots, keySound, countKeys, lengthAt, fieldsAt, lengthThen, part, overlay, laid, chunks, gathered, outside, scenesInside, copySlot}
 
 -- ---- a sound key word, by two comparisons
 
@@ -47,6 +49,16 @@ getD-part l from n i h = getD-take n (drop from l) i 0 h ∙ getD-drop from l i 
 
 pub length-part : (l : List ℕ) (from n : ℕ) → from + n ≤ length l → length (part from n l) ≡ n
 length-part l from n h = length-take-le n (drop from l) (omega (arith, length-drop from l))
+
+-- the length byte and the bytes up to it, as they stand
+pub length-then : (f : List ℕ) (at : ℕ) → at * stride + stride ≤ length f → lengthAt f at ≤ maxFields → lengthThen (fieldsAt f at) ≡ part (at * stride) (lengthAt f at + 1) f
+length-then f at h l =
+    let n = lengthAt f at in
+    let e : length (fieldsAt f at) ≡ n = length-part f (at * stride + 1) n (omega arith) in
+    ap (λ (k : ℕ). k ∷ fieldsAt f at) e
+    ∙ ap (λ (k : ℕ). n ∷ part k n f) (add-one (at * stride))
+    ∙ ap (take (suc n)) (sym (drop-cons f (at * stride) 0 (omega arith)))
+    ∙ ap (λ (k : ℕ). part (at * stride) k f) (sym (add-one n))
 
 -- ---- what is written over a list
 
@@ -105,6 +117,15 @@ module _ {old : List ℕ} {at : ℕ} {new l : List ℕ} {i : ℕ} (c : Copied ol
       ap (λ (m : List ℕ). getD m k 0) (c .copied)
       ∙ same-getD (paste old at new i) old (at + i) k h (drop-paste old at new i (omega arith) (c .reached))
 
+  -- and so is what stands before
+  pub copied-before : (k : ℕ) → k < at → getD l k 0 ≡ getD old k 0
+  copied-before k h =
+      let e : length (take at old) ≡ at = length-take-le at old (omega arith) in
+      ap (λ (m : List ℕ). getD m k 0) (c .copied)
+      ∙ List·getD-append (take at old ++ take i new) (drop (at + i) old) 0 k (omega (arith, length-append (take at old) (take i new)))
+      ∙ List·getD-append (take at old) (take i new) 0 k (omega arith)
+      ∙ getD-take at old k 0 h
+
   pub copied-all : length new ≤ i → l ≡ overlay at new old
   copied-all h =
       let e : i ≡ length new = omega arith in
@@ -132,6 +153,16 @@ laid-more new p old at e =
     rw (← e, take-append-seam new (drop (length new) old), ← n)
     (ap (λ (l : List ℕ). new ++ p ++ l) (same-drop (laid new old) old (length new) (length new + length p) (omega arith) (laid-behind new old)))
 
+-- one more element behind it
+pub laid-one : (new old : List ℕ) (at v : ℕ) → length new ≡ at → at < length old → set (laid new old) at v ≡ laid (new ++ (v ∷ [])) old
+laid-one new old at v e h =
+    let m : length (laid new old) ≡ length old = laid-length new old (omega arith) in
+    set-overlay (laid new old) at v (omega arith) ∙ laid-more new (v ∷ []) old at e
+
+pub laid-none : (old : List ℕ) → old ≡ laid [] old
+unfolding laid
+laid-none old = refl
+
 -- ---- the entries at some positions
 
 -- each of the positions is below n
@@ -151,10 +182,8 @@ picked-more : (l ps : List ℕ) (i : ℕ) → length ps ≤ i → i < length l
     → set (laid (picked l ps) l) (length ps) (getD (laid (picked l ps) l) i 0) ≡ laid (picked l (ps ++ (i ∷ []))) l
 picked-more l ps i h k =
     let n : length (picked l ps) ≡ length ps = length-map ps (λ j. getD l j 0) in
-    let m : length (laid (picked l ps) l) ≡ length l = laid-length (picked l ps) l (omega arith) in
     ap (λ (v : ℕ). set (laid (picked l ps) l) (length ps) v) (same-getD (laid (picked l ps) l) l (length (picked l ps)) i (omega arith) (laid-behind (picked l ps) l))
-    ∙ set-overlay (laid (picked l ps) l) (length ps) (getD l i 0) (omega arith)
-    ∙ laid-more (picked l ps) (getD l i 0 ∷ []) l (length ps) n
+    ∙ laid-one (picked l ps) l (length ps) (getD l i 0) n (omega arith)
     ∙ ap (λ (new : List ℕ). laid new l) (sym (map-append (λ j. getD l j 0) ps (i ∷ [])))
 
 pub length-chunks : (ps f : List ℕ) (n : ℕ) → Under ps n → n * stride ≤ length f → length (chunks ps f) ≡ length ps * stride
@@ -222,3 +251,45 @@ module _ (keys : List ℕ) (r : KeyRange) where
   pub outside-under : (n : ℕ) → Under (outside keys n r) n
   unfolding outside
   outside-under n = kept-under _ n
+
+-- ---- the scenes that are listed
+
+kept-length : (p : ℕ → Bool) (n : ℕ) → length (keptBelow p n) ≡ countBelow p n
+unfolding keptBelow countBelow
+kept-length p zero = refl
+kept-length p (suc n) =
+    elim (p n) as (λ b. length (cond b (keptBelow p n ++ (n ∷ [])) (keptBelow p n)) ≡ cond b (suc (countBelow p n)) (countBelow p n)) [
+      | true ↦ omega (arith, kept-length p n, length-append (keptBelow p n) (n ∷ []))
+      | false ↦ kept-length p n
+    ]
+
+count-grows : (p : ℕ → Bool) (m n : ℕ) → m ≤ n → countBelow p m ≤ countBelow p n
+unfolding countBelow
+count-grows p m zero h = let e : m ≡ 0 = omega arith in rw e (omega arith)
+count-grows p m (suc n) h =
+    ⊎-elim (λ e. rw e (omega arith)) (λ l.
+    let k = count-grows p m n (le-of-suc-le-suc l) in
+    elim (p n) as (λ b. countBelow p m ≤ cond b (suc (countBelow p n)) (countBelow p n)) [ true ↦ omega arith | false ↦ k ])
+    (eq-or-lt-of-le h)
+
+module _ (keys : List ℕ) (r : KeyRange) where
+  pub scenes-none : scenesInside keys 0 r ≡ []
+  unfolding scenesInside
+  scenes-none = ap (map (λ i. sceneOf (getD keys i 0))) (kept-none _)
+
+  pub scenes-hit : (i : ℕ) → within r (getD keys i 0) ≡ true → scenesInside keys (i + 1) r ≡ scenesInside keys i r ++ (sceneOf (getD keys i 0) ∷ [])
+  unfolding scenesInside
+  scenes-hit i e = ap (map (λ i. sceneOf (getD keys i 0))) (kept-hit _ i e) ∙ map-append (λ i. sceneOf (getD keys i 0)) (keptBelow (λ i. within r (getD keys i 0)) i) (i ∷ [])
+
+  pub scenes-miss : (i : ℕ) → within r (getD keys i 0) ≡ false → scenesInside keys (i + 1) r ≡ scenesInside keys i r
+  unfolding scenesInside
+  scenes-miss i e = ap (map (λ i. sceneOf (getD keys i 0))) (kept-miss _ i e)
+
+  -- there are as many as the range counts
+  pub scenes-length : (n : ℕ) → length (scenesInside keys n r) ≡ countKeys keys n r
+  unfolding scenesInside countKeys
+  scenes-length n = length-map (keptBelow (λ i. within r (getD keys i 0)) n) (λ i. sceneOf (getD keys i 0)) ∙ kept-length _ n
+
+  pub scenes-grow : (m n : ℕ) → m ≤ n → length (scenesInside keys m r) ≤ length (scenesInside keys n r)
+  unfolding countKeys
+  scenes-grow m n h = omega (arith, scenes-length m, scenes-length n, count-grows (λ i. within r (getD keys i 0)) m n h)

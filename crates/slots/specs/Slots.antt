@@ -6,7 +6,7 @@ use mathlib.Core.List.{List, [], _∷_, _++_, map}
 use lib.Dec.{eqb, leb, ltb}
 use lib.ListN.{length, take, drop, getD, set}
 use Rattle.words.specs.Constants.{stride, maxFields}
-use Rattle.words.specs.Words.{within, fabricOf}
+use Rattle.words.specs.Words.{within, fabricOf, sceneOf}
 use Rattle.words.specs.Below.{everyBelow, countBelow, firstBelow, keptBelow}
 use Rattle.words.specs.declared.Found.{Found}
 use Rattle.words.specs.declared.KeyRange.{KeyRange}
@@ -107,3 +107,7 @@ gathered ps s = record {
 -- the positions below n whose key word lies outside a range, in order
 unfoldable pub outside : List ℕ → ℕ → KeyRange → List ℕ
 outside keys n r = keptBelow (λ i. not (within r (getD keys i 0))) n
+
+-- the scene ids of the first n key words that lie in a range, in order
+unfoldable pub scenesInside : List ℕ → ℕ → KeyRange → List ℕ
+scenesInside keys n r = map (λ i. sceneOf (getD keys i 0)) (keptBelow (λ i. within r (getD keys i 0)) n)

@@ -6,9 +6,9 @@ use words::Limits;
 use words::Slot;
 ghost use mathlib.Core.Path.{_≡_};
 ghost use Prim.Native.Nat.{_+_, _*_, _<_, _≤_};
-ghost use lib.ListN.{length};
+ghost use lib.ListN.{length, getD};
 ghost use Rattle.words.specs.Constants.{stride, maxFields};
-ghost use Rattle.slots.specs.Slots.{firstKey, countKeys, keysSound, lengthsSound, lengthAt, fieldsAt, overlay, slotsOf, putSlot, copySlot, lengthThen, part, outside, gathered};
+ghost use Rattle.slots.specs.Slots.{firstKey, countKeys, keysSound, lengthsSound, lengthAt, fieldsAt, overlay, slotsOf, putSlot, copySlot, lengthThen, part, outside, gathered, laid, scenesInside};
 
 // The first of the first n positions that holds the key word.
 pub fn find(keys: &[u64], n: usize, key: u64) -> Found
@@ -173,4 +173,65 @@ pub fn retain(
         }
     }
     j
+}
+
+// Writes a length byte and the bytes up to it from one place of the field bytes to another, of which no byte is part of the first
+// unless they are the same.
+fn put_bytes_of(fields: &mut [u8], from: usize, to: usize)
+    requires { ⌜ from * stride + stride ≤ length (now fields) ⌝ }
+    requires { ⌜ to * stride + stride ≤ length (now fields) ⌝ }
+    requires { ⌜ lengthAt (now fields) from ≤ maxFields ⌝ }
+    ensures { λ _. ⌜ now (fields .exit) ≡ overlay (to * stride) (lengthThen (fieldsAt (now (fields .entry)) from)) (now (fields .entry)) ⌝ }
+{
+    let source = from * Slot::STRIDE;
+    let target = to * Slot::STRIDE;
+    let size = fields[source] as usize;
+    let mut i = 0;
+    while i <= size {
+        fields[target + i] = fields[source + i];
+        i += 1;
+    }
+}
+
+// Writes the time and the fields of one entry at another position, under a key word: there the bytes past the new length stay.
+pub fn put_copy(
+    keys: &mut [u64],
+    times: &mut [u32],
+    fields: &mut [u8],
+    from: usize,
+    to: usize,
+    key: u64,
+)
+    requires { ⌜ to < length (now keys) ⌝ }
+    requires { ⌜ from < length (now times) ⌝ }
+    requires { ⌜ to < length (now times) ⌝ }
+    requires { ⌜ from * stride + stride ≤ length (now fields) ⌝ }
+    requires { ⌜ to * stride + stride ≤ length (now fields) ⌝ }
+    requires { ⌜ lengthAt (now fields) from ≤ maxFields ⌝ }
+    ensures { λ _. ⌜ slotsOf (now (keys .exit)) (now (times .exit)) (now (fields .exit)) ≡ putSlot to key (getD (now (times .entry)) from 0) (fieldsAt (now (fields .entry)) from) (slotsOf (now (keys .entry)) (now (times .entry)) (now (fields .entry))) ⌝ }
+{
+    let time = times[from];
+    keys[to] = key;
+    times[to] = time;
+    put_bytes_of(fields, from, to);
+}
+
+// Writes the scene ids of those of the first n key words that lie in a range, in order, into the front of a buffer.
+pub fn list_scenes(keys: &[u64], n: usize, range: KeyRange, ids: &mut [u8])
+    requires { ⌜ n ≤ length (now keys) ⌝ }
+    requires { ⌜ countKeys (now keys) n range ≤ length (now ids) ⌝ }
+    ensures { λ _. ⌜ now (ids .exit) ≡ laid (scenesInside (now (keys .entry)) n range) (now (ids .entry)) ⌝ }
+{
+    let mut i = 0;
+    let mut j = 0;
+    while i < n {
+        let word = keys[i];
+        if range.holds(word) {
+            ids[j] = words::scene_of(word);
+            i += 1;
+            j += 1;
+        } else {
+            i += 1;
+        }
+    }
 }

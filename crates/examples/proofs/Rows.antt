@@ -1,0 +1,211 @@
+-- Every row marked P holds of the definitions that the contracts cite. Assumes nothing.
+use Prim.Native.Nat.{ℕ}
+use mathlib.Core.Path.{_≡_, refl, ap, _∙_}
+use mathlib.Core.Bool.{Bool, true, false, cond, _||_}
+use mathlib.Core.List.{List, [], _∷_}
+use mathlib.Core.Logic.{_⊎_, inl, inr, ⊎-elim}
+use native.Mathlib.Omega.{arith}
+use lib.Dec.{eqb}
+use Rattle.words.specs.Constants.{success, constraintError, insufficientSpace, globalScene, reservedScene}
+use Rattle.requests.specs.declared.Membership.{Membership}
+use Rattle.requests.specs.declared.Membership.the-variants.{Yes}
+use Rattle.words.specs.Conditions.{allOf}
+use Rattle.words.specs.Words.{within}
+use Rattle.words.specs.Below.{positions, everyBelow, anyBelow, countBelow, firstBelow, orElse}
+use Rattle.slots.specs.Slots.{firstKey, countKeys, keysSound, lengthsSound, overlay, putSlot, copySlot}
+use Rattle.records.specs.Records.{recordsSound, firstOwned, rememberAt, remember, inScope, anyHit, mapFirst, invalidated}
+use Rattle.requests.specs.declared.CopyRequest.{CopyRequest}
+use Rattle.requests.specs.Requests.{orNext, firstRefusal, wholeGroup, refuseIf, sceneGate, copiedGate, memberGate, pairsGate, addGate, storeGate, lookupGate, copyGate}
+use Rattle.requests.proofs.Laws.{next-pass, next-refuse}
+use Rattle.scenes.specs.Table.{Table, entriesIn}
+use Rattle.scenes.specs.Sound.{fits, sound}
+use Rattle.scenes.specs.Capacity.{roomFor, remaining}
+use Rattle.scenes.specs.Current.{rememberCurrent, invalidateCurrent}
+use Rattle.scenes.specs.Change.{findScene, putAt, append, upsertAt, upsert, swapRemove}
+use Rattle.scenes.specs.Answer.{Result, refused, refusalOf, guarded}
+use Rattle.scenes.specs.Commands.{addScene, stored, storeCaptured, storeScene, removeFound, removeScene, recallFound, recallScene}
+use Rattle.scenes.specs.Copy.{copyTo, copyEntry, copyFound, copySingle, copyWalk, copySources, copied, copyScenesInner, copyScene}
+use Rattle.scenes.specs.Reads.{readAt, recallLookup, viewScene}
+use Rattle.examples.specs.Rows.{Row, Holds, EveryRow, rows, Naming, byAdd, byView, byRemove, byStore, byRecall, byLookup, bySource, byTarget, named, plain, passes, passing, reserved, Asked, capacity, longest, noCopy, addWorks, midway, removed, versions, added, blank, sceneIn, scenesIn, copyOf, oneOfThree, Copying, request}
+
+-- ---- the rows of one case
+
+capacities : EveryRow (capacity 0 0 0 ∷ capacity 1 0 0 ∷ capacity 2 0 0 ∷ capacity 3 0 1 ∷ capacity 16 6 1 ∷ capacity 16 7 0 ∷ capacity 1024 0 255 ∷ [])
+unfolding remaining roomFor countKeys countBelow within
+capacities = ((λ _. refl), ((λ _. refl), ((λ _. refl), ((λ _. refl), ((λ _. refl), ((λ _. refl), ((λ _. refl), tt)))))))
+
+calls : EveryRow (longest ∷ addWorks ∷ midway ∷ versions ∷ [])
+unfolding guarded refusalOf sound fits allOf keysSound lengthsSound recordsSound everyBelow addScene viewScene removeScene storeScene recallScene recallLookup copyScene addGate lookupGate storeGate copyGate firstRefusal orNext memberGate pairsGate upsert upsertAt storeCaptured stored removeFound recallFound readAt copyScenesInner copied copySources copySingle copyFound copyWalk copyEntry copyTo roomFor countKeys countBelow within firstKey firstBelow orElse putAt append putSlot overlay swapRemove copySlot invalidateCurrent anyHit anyBelow invalidated mapFirst inScope rememberCurrent remember rememberAt firstOwned remaining entriesIn positions
+calls = ((λ _. refl), ((λ _. refl), ((λ _. refl), ((λ _. refl), tt))))
+
+-- keys a, b and c, in a table that is sound
+abbrev abc : Table
+abc = added 0 3 0 (added 0 2 0 (added 0 1 0 (blank 16) .table) .table) .table
+
+abc-sound : sound abc ≡ true
+unfolding guarded refusalOf sound fits allOf keysSound lengthsSound recordsSound everyBelow addScene viewScene removeScene storeScene recallScene recallLookup copyScene addGate lookupGate storeGate copyGate firstRefusal orNext memberGate pairsGate upsert upsertAt storeCaptured stored removeFound recallFound readAt copyScenesInner copied copySources copySingle copyFound copyWalk copyEntry copyTo roomFor countKeys countBelow within firstKey firstBelow orElse putAt append putSlot overlay swapRemove copySlot invalidateCurrent anyHit anyBelow invalidated mapFirst inScope rememberCurrent remember rememberAt firstOwned remaining entriesIn positions
+abc-sound = refl
+
+remove-sound : (t : Table) → sound t ≡ true → removeScene (sceneIn 0 1) Yes t ≡ removeFound (findScene (sceneIn 0 1) t) (sceneIn 0 1) t
+unfolding removeScene guarded refusalOf lookupGate firstRefusal orNext memberGate
+remove-sound t e = rw e
+
+removed-view : scenesIn (removeFound (findScene (sceneIn 0 1) abc) (sceneIn 0 1) abc .table) ≡ 3 ∷ 2 ∷ []
+unfolding guarded refusalOf sound fits allOf keysSound lengthsSound recordsSound everyBelow addScene viewScene removeScene storeScene recallScene recallLookup copyScene addGate lookupGate storeGate copyGate firstRefusal orNext memberGate pairsGate upsert upsertAt storeCaptured stored removeFound recallFound readAt copyScenesInner copied copySources copySingle copyFound copyWalk copyEntry copyTo roomFor countKeys countBelow within firstKey firstBelow orElse putAt append putSlot overlay swapRemove copySlot invalidateCurrent anyHit anyBelow invalidated mapFirst inScope rememberCurrent remember rememberAt firstOwned remaining entriesIn positions
+removed-view = refl
+
+removed-row : Holds removed
+removed-row c = ap (λ (r : Result). scenesIn (r .table)) (remove-sound abc abc-sound) ∙ removed-view
+
+-- ---- scenes 1 and 254, 0 and 255
+
+passing-status : (b : Bool) (n : Naming) → named (plain n) 0 (cond b 1 254) Yes ≡ passes n
+unfolding guarded refusalOf sound fits allOf keysSound lengthsSound recordsSound everyBelow addScene viewScene removeScene storeScene recallScene recallLookup copyScene addGate lookupGate storeGate copyGate firstRefusal orNext memberGate pairsGate upsert upsertAt storeCaptured stored removeFound recallFound readAt copyScenesInner copied copySources copySingle copyFound copyWalk copyEntry copyTo roomFor countKeys countBelow within firstKey firstBelow orElse putAt append putSlot overlay swapRemove copySlot invalidateCurrent anyHit anyBelow invalidated mapFirst inScope rememberCurrent remember rememberAt firstOwned remaining entriesIn positions
+passing-status true byAdd = refl
+passing-status true byView = refl
+passing-status true byRemove = refl
+passing-status true byStore = refl
+passing-status true (byRecall a) = refl
+passing-status true (byLookup o) = refl
+passing-status true (bySource r) = refl
+passing-status true (byTarget r) = refl
+passing-status false byAdd = refl
+passing-status false byView = refl
+passing-status false byRemove = refl
+passing-status false byStore = refl
+passing-status false (byRecall a) = refl
+passing-status false (byLookup o) = refl
+passing-status false (bySource r) = refl
+passing-status false (byTarget r) = refl
+
+-- a copy whose target scene is reserved is refused whatever its source scene is
+both-refuse : (r : ℕ) → orNext (sceneGate r) constraintError ≡ constraintError
+unfolding orNext
+both-refuse r =
+    elim (eqb r globalScene || eqb r reservedScene) as (λ b. orNext (refuseIf b constraintError) constraintError ≡ constraintError)
+    [ true ↦ refl | false ↦ refl ]
+
+target-gate : (b : Bool) (r g : ℕ) (m : Membership) → copyGate (copyOf 0 g r g (cond b globalScene reservedScene)) m m ≡ constraintError
+unfolding copyGate firstRefusal orNext
+target-gate true r g m = both-refuse r
+target-gate false r g m = both-refuse r
+
+refused-copy : (c : CopyRequest) → guarded (refused (blank 16)) (refusalOf (blank 16) constraintError) (copyScenesInner c (blank 16)) .status ≡ constraintError
+unfolding guarded refusalOf sound fits allOf keysSound lengthsSound recordsSound everyBelow
+refused-copy c = refl
+
+target-status : (b : Bool) (r g : ℕ) (m : Membership) → named (byTarget r) g (cond b globalScene reservedScene) m ≡ constraintError
+unfolding copyScene
+target-status b r g m =
+    let c : CopyRequest = copyOf 0 g r g (cond b globalScene reservedScene) in
+    ap (λ (n : ℕ). guarded (refused (blank 16)) (refusalOf (blank 16) n) (copyScenesInner c (blank 16)) .status) (target-gate b r g m) ∙ refused-copy c
+
+reserved-status : (b : Bool) (n : Naming) (g : ℕ) (m : Membership) → named n g (cond b globalScene reservedScene) m ≡ constraintError
+unfolding guarded refusalOf sound fits allOf keysSound lengthsSound recordsSound everyBelow addScene viewScene removeScene storeScene recallScene recallLookup copyScene addGate lookupGate storeGate copyGate firstRefusal orNext memberGate pairsGate upsert upsertAt storeCaptured stored removeFound recallFound readAt copyScenesInner copied copySources copySingle copyFound copyWalk copyEntry copyTo roomFor countKeys countBelow within firstKey firstBelow orElse putAt append putSlot overlay swapRemove copySlot invalidateCurrent anyHit anyBelow invalidated mapFirst inScope rememberCurrent remember rememberAt firstOwned remaining entriesIn positions
+reserved-status true byAdd g m = refl
+reserved-status true byView g m = refl
+reserved-status true byRemove g m = refl
+reserved-status true byStore g m = refl
+reserved-status true (byRecall a) g m = refl
+reserved-status true (byLookup o) g m = refl
+reserved-status true (bySource r) g m = refl
+reserved-status true (byTarget r) g m = target-status true r g m
+reserved-status false byAdd g m = refl
+reserved-status false byView g m = refl
+reserved-status false byRemove g m = refl
+reserved-status false byStore g m = refl
+reserved-status false (byRecall a) g m = refl
+reserved-status false (byLookup o) g m = refl
+reserved-status false (bySource r) g m = refl
+reserved-status false (byTarget r) g m = target-status false r g m
+
+-- ---- copies in a table of three places
+
+member-yes : (g : ℕ) → memberGate g Yes ≡ success
+unfolding memberGate
+member-yes g = elim (eqb g 0) as (λ b. cond b success success ≡ success) [ true ↦ refl | false ↦ refl ]
+
+copied-either : (mode s : ℕ) → (copiedGate mode s ≡ success) ⊎ (copiedGate mode s ≡ constraintError)
+copied-either mode s =
+    elim (wholeGroup mode) as (λ w. (cond w success (sceneGate s) ≡ success) ⊎ (cond w success (sceneGate s) ≡ constraintError)) [
+      | true ↦ inl refl
+      | false ↦ elim (eqb s globalScene || eqb s reservedScene) as (λ b. (refuseIf b constraintError ≡ success) ⊎ (refuseIf b constraintError ≡ constraintError)) [ true ↦ inr refl | false ↦ inl refl ]
+    ]
+
+-- with membership yes a copy's gate is 0 or 0x87
+gate-either : (c : Copying) → (copyGate (request c) Yes Yes ≡ success) ⊎ (copyGate (request c) Yes Yes ≡ constraintError)
+unfolding copyGate firstRefusal
+gate-either c =
+    let refuses : (x y : ℕ) → x ≡ constraintError → orNext x y ≡ constraintError = λ x y e. next-refuse x y (λ z. omega arith) ∙ e in
+    ⊎-elim
+    (λ x.
+    ⊎-elim
+    (λ y. inl (next-pass 0 _ refl ∙ next-pass _ _ x ∙ next-pass _ _ y ∙ next-pass _ _ (member-yes (c .group)) ∙ next-pass _ _ (member-yes (c .toGroup))))
+    (λ y. inr (next-pass 0 _ refl ∙ next-pass _ _ x ∙ refuses _ _ y))
+    (copied-either (c .mode) (c .toScene)))
+    (λ x. inr (next-pass 0 _ refl ∙ refuses _ _ x))
+    (copied-either (c .mode) (c .scene))
+
+full : (c : Copying) (n : ℕ) → guarded (refused oneOfThree) (refusalOf oneOfThree n) (copyScenesInner (request c) oneOfThree) .status ≡ cond (eqb n success) insufficientSpace n
+unfolding guarded refusalOf sound fits allOf keysSound lengthsSound recordsSound everyBelow addScene viewScene removeScene storeScene recallScene recallLookup copyScene addGate lookupGate storeGate copyGate firstRefusal orNext memberGate pairsGate upsert upsertAt storeCaptured stored removeFound recallFound readAt copyScenesInner copied copySources copySingle copyFound copyWalk copyEntry copyTo roomFor countKeys countBelow within firstKey firstBelow orElse putAt append putSlot overlay swapRemove copySlot invalidateCurrent anyHit anyBelow invalidated mapFirst inScope rememberCurrent remember rememberAt firstOwned remaining entriesIn positions
+full c n = elim (eqb n success) as (λ b. cond b (refused oneOfThree insufficientSpace) (refused oneOfThree n) .status ≡ cond b insufficientSpace n) [ true ↦ refl | false ↦ refl ]
+
+no-copy : Holds noCopy
+unfolding copyScene
+no-copy c =
+    ap (λ (n : ℕ). n ∷ [])
+    (full c (copyGate (request c) Yes Yes)
+    ∙ ⊎-elim (λ z. rw z) (λ z. rw z) (gate-either c))
+
+-- ---- the theorem
+
+pub every-row : EveryRow rows
+every-row = (
+  capacities .0,
+  (
+    capacities .1 .0,
+    (
+      capacities .1 .1 .0,
+      (
+        capacities .1 .1 .1 .0,
+        (
+          capacities .1 .1 .1 .1 .0,
+          (
+            capacities .1 .1 .1 .1 .1 .0,
+            (
+              capacities .1 .1 .1 .1 .1 .1 .0,
+              (
+                calls .0,
+                (
+                  (λ n. ap (λ (k : ℕ). k ∷ []) (passing-status true n)),
+                  (
+                    (λ n. ap (λ (k : ℕ). k ∷ []) (passing-status false n)),
+                    (
+                      (λ c. ap (λ (k : ℕ). k ∷ []) (reserved-status true (c .naming) (c .group) (c .member))),
+                      (
+                        (λ c. ap (λ (k : ℕ). k ∷ []) (reserved-status false (c .naming) (c .group) (c .member))),
+                        (
+                          no-copy,
+                          (
+                            calls .1 .0,
+                            (
+                              calls .1 .1 .0,
+                              (
+                                removed-row,
+                                (calls .1 .1 .1 .0, tt),
+                              ),
+                            ),
+                          ),
+                        ),
+                      ),
+                    ),
+                  ),
+                ),
+              ),
+            ),
+          ),
+        ),
+      ),
+    ),
+  ),
+)

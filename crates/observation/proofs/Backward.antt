@@ -1,0 +1,310 @@
+-- From equivalence to the four matters, by lists that tell two tables apart: a view of each key; info, and info after a notice; adds of
+-- fresh keys until one is refused; a store, then info. Assumes the laws, as an argument.
+use Prim.Native.Nat.{ℕ, zero, suc, _+_, _^_, _≤_, _<_}
+use native.Mathlib.Omega.{arith}
+use mathlib.Core.Path.{_≡_, refl, sym, ap, ap₂, _∙_, subst, subst₂}
+use mathlib.Core.Bool.{Bool, true, false, cond, _&&_, _||_}
+use mathlib.Core.List.{List, [], _∷_, _++_}
+use mathlib.Core.Option.{Option, none, some, Option·map, Option·none-ne-some}
+use lib.ListN.{length, getD}
+use lib.Dec.{ltb, eqb}
+use borrow.Author.Tests.{ltb-true, ltb-false, lt-ltb, le-ltb, eqb-true, eqb-false, eq-eqb}
+use Rattle.words.specs.Constants.{insufficientSpace, maxFields, endOfContainer}
+use Rattle.words.specs.Words.{wordOf, fabricOf, endpointOf, groupOf, sceneOf, keyOfRecord, isValid, validRecord}
+use Rattle.words.specs.declared.SceneKey.{SceneKey}
+use Rattle.records.specs.declared.Scope.the-variants.{Scene, Endpoint}
+use Rattle.records.specs.Records.{inScope, cleared}
+use Rattle.requests.specs.declared.Membership.the-variants.{Yes}
+use Rattle.scenes.specs.Table.{Table, entriesIn}
+use Rattle.scenes.specs.Sound.{sound}
+use Rattle.requests.specs.Requests.{reserved}
+use Rattle.observation.specs.Lists.{bit, found, find, has, keep, put}
+use Rattle.observation.specs.Views.{keyIs, entryOf}
+use Rattle.observation.specs.Calls.{Command, add, view, store, info, command, notice, Answer, answer, next, sceneKey, Fits}
+use Rattle.observation.specs.Equivalence.{own, noticed, Same, wholeCopy, Equivalent, mine, ofFabric, seen, Agree}
+use Rattle.observation.specs.Changes.{View, viewOf, freeIn, usedIn, currentIn, recordFitsIn, placeFor, written, invalidated, remembered}
+use Rattle.observation.proofs.Effects.{Seen, sees, done, refuse, timeOf, viewed, infoOut}
+use Rattle.observation.proofs.Laws.{Laws}
+use Rattle.observation.proofs.Counts.{both, count-keep, find-passes, find-counts, find-none, none-find}
+use Rattle.observation.proofs.Choices.{or-none, bit-zero, bit-same, has-count, length-put-has}
+use Rattle.observation.proofs.Bits.{key-fabric, key-scene, record-key, low-invalid}
+use Rattle.observation.proofs.Views.{entries-length, records-length}
+use Rattle.observation.proofs.Invariant.{badKey, bad, FineKey, fine-entry, named-fine, key-fine}
+use Rattle.observation.proofs.Simulation.{current-invalidated, fits-invalidated, put-current}
+use Rattle.observation.proofs.Order.{scenes-perm}
+use Rattle.observation.proofs.Passed.{lookup-let, add-let, store-let, info-let}
+use Rattle.observation.proofs.Probes.{viewed-same, key-found, no-bad, parts, counts, probe, fresh-key, told, info-group, info-scene, info-valid, scene-one}
+use Rattle.observation.proofs.Reach.{Standing, step-standing}
+
+-- two tables that the fabric cannot tell apart
+record Pair (f : ℕ) (s t : Table) : Type 0 where
+  left : Standing s
+  right : Standing t
+  see : Equivalent f s t
+
+told-by : (part : ℕ → ℕ) (o : Option ℕ) (w : ℕ) → o ≡ some w → told part o ≡ part w
+told-by part o w e = ap (told part) e
+
+codes : (b c : Bool) → cond b 0 insufficientSpace ≡ cond c 0 insufficientSpace → b ≡ c
+codes true true e = refl
+codes true false e = absurd (omega arith)
+codes false true e = absurd (omega arith)
+codes false false e = refl
+
+code-place : (b : Bool) (x y : View) → cond {A = Seen} b (done true, x) (refuse insufficientSpace, y) .0 .status ≡ cond b 0 insufficientSpace
+code-place true x y = refl
+code-place false x y = refl
+
+no-record : (o o′ : Option ℕ) → Option·map seen o ≡ Option·map seen o′ → o ≡ none → o′ ≡ none
+no-record o none e n = refl
+no-record o (some w) e n = absurd (Option·none-ne-some (seen w) (sym (ap (Option·map seen) n) ∙ e))
+
+module _ (laws : Laws) (f : ℕ) (f1 : 1 ≤ f) (f255 : f ≤ 255) where
+  hf : f < 2 ^ 8
+  hf = omega arith
+
+  -- a command or read, what is seen after it, and after a notice
+  asks : (s t : Table) → Pair f s t → (e : ℕ) (c : Command) → Fits (command f e c) → Same (answer (command f e c) s) (answer (command f e c) t)
+  asks s t p e c h = p .see (own e c ∷ []) (h, tt) .0
+
+  moves : (s t : Table) → Pair f s t → (e : ℕ) (c : Command) → Fits (command f e c) → wholeCopy c ≡ false → Pair f (next (command f e c) s) (next (command f e c) t)
+  moves s t p e c h w = record {
+    left = step-standing laws (command f e c) s h (p .left);
+    right = step-standing laws (command f e c) t h (p .right);
+    see = λ xs fit.
+        let r = p .see (own e c ∷ xs) (h, fit) .1 in
+        let n : ((wholeCopy c && eqb (answer (command f e c) s .status) insufficientSpace) || (wholeCopy c && eqb (answer (command f e c) t .status) insufficientSpace)) ≡ false =
+        ap (λ (b : Bool). (b && eqb (answer (command f e c) s .status) insufficientSpace) || (b && eqb (answer (command f e c) t .status) insufficientSpace)) w in
+        rw n at r;
+  }
+
+  hears : (s t : Table) → Pair f s t → (e : ℕ) → e < 2 ^ 16 → Pair f (next (notice e) s) (next (notice e) t)
+  hears s t p e h = record {
+    left = step-standing laws (notice e) s h (p .left);
+    right = step-standing laws (notice e) t h (p .right);
+    see = λ xs fit. p .see (noticed e ∷ xs) (h, fit) .1;
+  }
+
+  -- ---- a view of each key
+
+  view-answer : (t : Table) → Standing t → (e g sc : ℕ) → e < 2 ^ 16 → g < 2 ^ 16 → sc < 2 ^ 8 → reserved sc ≡ false
+      → answer (command f e (view g sc Yes)) t ≡ viewed (find (keyIs (wordOf (sceneKey f e g sc))) (viewOf t .entries))
+  view-answer t i e g sc he hg hs plain = ap (λ (o : Seen). o .0) (laws .commands f e t (i .intact) hf he .view-acts g sc Yes (hg, hs) (lookup-let (sceneKey f e g sc) (record { fabric = f1; scene = plain })))
+
+  finds : (s t : Table) → Pair f s t → (k : ℕ) → fabricOf k ≡ f → find (keyIs k) (viewOf s .entries) ≡ find (keyIs k) (viewOf t .entries)
+  finds s t p k h =
+      (elim (badKey k) as (λ b. badKey k ≡ b → find (keyIs k) (viewOf s .entries) ≡ find (keyIs k) (viewOf t .entries)) [
+        | true ↦ λ b. no-bad k (viewOf s .entries) (p .left .inv .good) b ∙ sym (no-bad k (viewOf t .entries) (p .right .inv .good) b)
+        | false ↦ λ b.
+            let q = parts f k h b in
+            viewed-same k (find (keyIs k) (viewOf s .entries)) (find (keyIs k) (viewOf t .entries)) (key-found k (viewOf s .entries)) (key-found k (viewOf t .entries))
+            (subst (λ (n : ℕ). Same (viewed (find (keyIs n) (viewOf s .entries))) (viewed (find (keyIs n) (viewOf t .entries)))) (sym (q .is))
+            (subst₂ Same (view-answer s (p .left) (q .e) (q .g) (q .s) (q .he) (q .hg) (q .hs) (q .plain)) (view-answer t (p .right) (q .e) (q .g) (q .s) (q .he) (q .hg) (q .hs) (q .plain))
+            (asks s t p (q .e) (view (q .g) (q .s) Yes) (hf, q .he, (q .hg, q .hs)))))
+      ]) refl
+
+  -- ---- info, and info after a notice
+
+  record Tells (o o′ : Option ℕ) : Type 0 where
+    group : told (λ w. groupOf (keyOfRecord w)) o ≡ told (λ w. groupOf (keyOfRecord w)) o′
+    scene : told (λ w. sceneOf (keyOfRecord w)) o ≡ told (λ w. sceneOf (keyOfRecord w)) o′
+    valid : told (λ w. bit (isValid w)) o ≡ told (λ w. bit (isValid w)) o′
+
+  records : (s t : Table) → Pair f s t → Tells (currentIn f (viewOf s)) (currentIn f (viewOf t))
+  records s t p =
+      let at : (u : Table) → Standing u → answer (command f 0 (info false)) u ≡ infoOut f 0 (viewOf u) =
+      λ u i. ap (λ (o : Seen). o .0) (laws .commands f 0 u (i .intact) hf (omega arith) .info-acts false (info-let f f1)) in
+      let a : infoOut f 0 (viewOf s) .values ≡ infoOut f 0 (viewOf t) .values =
+      sym (ap (λ (o : Answer). o .values) (at s (p .left))) ∙ asks s t p 0 (info false) (hf, omega arith, tt) .values ∙ ap (λ (o : Answer). o .values) (at t (p .right)) in
+      record {
+        group = sym (info-group f 0 (viewOf s)) ∙ ap (λ (l : List ℕ). getD l 1 0) a ∙ info-group f 0 (viewOf t);
+        scene = sym (info-scene f 0 (viewOf s)) ∙ ap (λ (l : List ℕ). getD l 2 0) a ∙ info-scene f 0 (viewOf t);
+        valid = sym (info-valid f 0 (viewOf s)) ∙ ap (λ (l : List ℕ). getD l 3 0) a ∙ info-valid f 0 (viewOf t);
+      }
+
+  -- the record after a notice
+  current-heard : (t : Table) → Standing t → (e : ℕ) → e < 2 ^ 16 → (w : ℕ) → currentIn f (viewOf t) ≡ some w → currentIn f (viewOf (next (notice e) t)) ≡ some (cleared (Endpoint e) w)
+  current-heard t i e he w c =
+      ap (λ (o : Seen). currentIn f (o .1)) (laws .events t (i .intact) .notice-acts e he)
+      ∙ current-invalidated f (Endpoint e) (viewOf t) ∙ ap (Option·map (cleared (Endpoint e))) c
+
+  endpoints : (s t : Table) → Pair f s t → (v w : ℕ) → currentIn f (viewOf s) ≡ some v → currentIn f (viewOf t) ≡ some w → isValid v ≡ true → isValid w ≡ true
+      → endpointOf (keyOfRecord v) ≡ endpointOf (keyOfRecord w)
+  unfolding inScope
+  endpoints s t p v w cs ct hv hw =
+      let e = endpointOf (keyOfRecord v) in
+      let he : e < 2 ^ 16 = omega arith in
+      let r : bit (isValid (cleared (Endpoint e) v)) ≡ bit (isValid (cleared (Endpoint e) w)) =
+      sym (told-by (λ u. bit (isValid u)) _ _ (current-heard s (p .left) e he v cs))
+      ∙ records (next (notice e) s) (next (notice e) t) (hears s t p e he) .valid
+      ∙ told-by (λ u. bit (isValid u)) _ _ (current-heard t (p .right) e he w ct) in
+      let off : bit (isValid (cleared (Endpoint e) v)) ≡ 0 = rw (hv, eq-eqb e e refl) (ap bit (low-invalid v)) in
+      (elim (eqb (endpointOf (keyOfRecord w)) e) as (λ b. eqb (endpointOf (keyOfRecord w)) e ≡ b → e ≡ endpointOf (keyOfRecord w)) [
+        | true ↦ λ h. sym (eqb-true (endpointOf (keyOfRecord w)) e h)
+        | false ↦ λ h.
+            let on : bit (isValid (cleared (Endpoint e) w)) ≡ 1 = rw (hw, h) (ap bit hw) in
+            absurd (omega arith)
+      ]) refl
+
+  recorded : (s t : Table) → Pair f s t → Option·map seen (currentIn f (viewOf s)) ≡ Option·map seen (currentIn f (viewOf t))
+  recorded s t p = go (currentIn f (viewOf s)) (currentIn f (viewOf t)) refl refl (records s t p)
+    where
+      ends-same : (v w : ℕ) → currentIn f (viewOf s) ≡ some v → currentIn f (viewOf t) ≡ some w → (b c : Bool) → isValid v ≡ b → isValid w ≡ c → b ≡ c
+          → cond b (endpointOf (keyOfRecord v)) 0 ≡ cond c (endpointOf (keyOfRecord w)) 0
+      ends-same v w cs ct true true hv hw e = endpoints s t p v w cs ct hv hw
+      ends-same v w cs ct true false hv hw e = absurd (omega (arith, ap bit e))
+      ends-same v w cs ct false true hv hw e = absurd (omega (arith, ap bit e))
+      ends-same v w cs ct false false hv hw e = refl
+
+      go : (o o′ : Option ℕ) → currentIn f (viewOf s) ≡ o → currentIn f (viewOf t) ≡ o′ → Tells o o′ → Option·map seen o ≡ Option·map seen o′
+      go none none cs ct r = refl
+      go none (some w) cs ct r = absurd (omega (arith, r .scene, scene-one f (viewOf t) (p .right .inv) w ct))
+      go (some v) none cs ct r = absurd (omega (arith, r .scene, scene-one f (viewOf s) (p .left .inv) v cs))
+      go (some v) (some w) cs ct r =
+          let b : isValid v ≡ isValid w = bit-same (isValid v) (isValid w) (r .valid) in
+          let e = ends-same v w cs ct (isValid v) (isValid w) refl refl b in
+          λ k. some (record { group = r .group k; scene = r .scene k; valid = b k; endpoint = e k })
+
+  -- ---- adds of fresh keys
+
+  abbrev adding : Command
+  adding = add 0 1 0 Yes [] []
+
+  -- a fresh key of one is fresh in the other
+  record Unused (s t : Table) : Type 0 where
+    e : ℕ
+    fits : Fits (command f e adding)
+    here : has (keyIs (probe f e)) (viewOf s .entries) ≡ false
+    there : has (keyIs (probe f e)) (viewOf t .entries) ≡ false
+
+  unused : (s t : Table) → Pair f s t → Unused s t
+  unused s t p =
+      let i = p .left .inv in
+      let r = fresh-key f 1025 (viewOf s .entries) (omega (arith, i .room, i .small)) in
+      let k = probe f (r .0) in
+      let n : find (keyIs k) (viewOf s .entries) ≡ none = none-find (keyIs k) (viewOf s .entries) (r .2) in
+      let m = finds s t p k (key-fabric f (r .0) 0 1 hf (omega (arith, r .1)) (omega arith) (omega arith)) in
+      record { e = r .0; fits = (hf, omega (arith, r .1), (omega arith, omega arith, omega arith, refl, refl)); here = ap found n; there = ap found (sym m ∙ n) }
+
+  module _ (t : Table) (i : Standing t) (e : ℕ) (h : Fits (command f e adding)) where
+    adds : sees (command f e adding) t
+        ≡ cond (placeFor (probe f e) (viewOf t)) (done true, invalidated (Scene (sceneKey f e 0 1)) (written (entryOf (sceneKey f e 0 1) 0 []) (viewOf t))) (refuse insufficientSpace, viewOf t)
+    adds = laws .commands f e t (i .intact) hf (h .1) .add-acts 0 1 0 Yes [] [] (h .2) (add-let (sceneKey f e 0 1) (record { fabric = f1; scene = refl }) maxFields)
+
+    add-code : answer (command f e adding) t .status ≡ cond (placeFor (probe f e) (viewOf t)) 0 insufficientSpace
+    add-code = ap (λ (o : Seen). o .0 .status) adds ∙ code-place (placeFor (probe f e) (viewOf t)) _ (viewOf t)
+
+    added : has (keyIs (probe f e)) (viewOf t .entries) ≡ false → ltb (length (viewOf t .entries)) (viewOf t .size) ≡ true
+        → (viewOf (next (command f e adding) t) .size ≡ viewOf t .size) × (length (viewOf (next (command f e adding) t) .entries) ≡ length (viewOf t .entries) + 1)
+    unfolding invalidated
+    added n l =
+        let x = entryOf (sceneKey f e 0 1) 0 [] in
+        let q : placeFor (probe f e) (viewOf t) ≡ true = ap₂ _||_ n l in
+        let a : sees (command f e adding) t ≡ (done true, invalidated (Scene (sceneKey f e 0 1)) (written x (viewOf t))) = rw q at adds in (
+          ap (λ (o : Seen). o .1 .size) a,
+          ap (λ (o : Seen). length (o .1 .entries)) a ∙ omega (arith, length-put-has (keyIs (probe f e)) x (viewOf t .entries), ap bit n),
+        )
+
+  room-same : (s t : Table) → Pair f s t → ltb (length (viewOf s .entries)) (viewOf s .size) ≡ ltb (length (viewOf t .entries)) (viewOf t .size)
+  room-same s t p =
+      let u = unused s t p in
+      let q : placeFor (probe f (u .e)) (viewOf s) ≡ placeFor (probe f (u .e)) (viewOf t) =
+      codes (placeFor (probe f (u .e)) (viewOf s)) (placeFor (probe f (u .e)) (viewOf t))
+      (sym (add-code s (p .left) (u .e) (u .fits)) ∙ asks s t p (u .e) adding (u .fits) .status ∙ add-code t (p .right) (u .e) (u .fits)) in
+      sym (ap (λ (b : Bool). b || ltb (length (viewOf s .entries)) (viewOf s .size)) (u .here)) ∙ q ∙ ap (λ (b : Bool). b || ltb (length (viewOf t .entries)) (viewOf t .size)) (u .there)
+
+  places : (n : ℕ) (s t : Table) → Pair f s t → viewOf s .size ≡ viewOf t .size → freeIn (viewOf s) ≡ n → freeIn (viewOf s) ≡ freeIn (viewOf t)
+  places zero s t p z h =
+      let full : ltb (length (viewOf t .entries)) (viewOf t .size) ≡ false = sym (room-same s t p) ∙ le-ltb (length (viewOf s .entries)) (viewOf s .size) (omega arith) in
+      omega (arith, ltb-false (length (viewOf t .entries)) (viewOf t .size) full)
+  places (suc n) s t p z h =
+      let more : ltb (length (viewOf s .entries)) (viewOf s .size) ≡ true = lt-ltb (length (viewOf s .entries)) (viewOf s .size) (omega arith) in
+      let more′ : ltb (length (viewOf t .entries)) (viewOf t .size) ≡ true = sym (room-same s t p) ∙ more in
+      let u = unused s t p in
+      let gs = added s (p .left) (u .e) (u .fits) (u .here) more in
+      let gt = added t (p .right) (u .e) (u .fits) (u .there) more′ in
+      let ih = places n (next (command f (u .e) adding) s) (next (command f (u .e) adding) t) (moves s t p (u .e) adding (u .fits) refl) (gs .0 ∙ z ∙ sym (gt .0)) (omega (arith, gs .0, gs .1)) in
+      omega (arith, ih, gs .0, gs .1, gt .0, gt .1, ltb-true (length (viewOf t .entries)) (viewOf t .size) more′)
+
+  -- ---- a store, then info: where there is a place, it tells whether a record fits
+
+  module _ (e g sc : ℕ) (he : e < 2 ^ 16) (hg : g < 2 ^ 16) (hs : sc < 2 ^ 8) (plain : reserved sc ≡ false) where
+    abbrev key : SceneKey
+    key = sceneKey f e g sc
+
+    abbrev storing : Command
+    storing = store g sc Yes []
+
+    fine : FineKey (wordOf key)
+    fine = named-fine f e g sc hf he hg hs f1 plain
+
+    own-key : fabricOf (wordOf key) ≡ f
+    own-key = key-fabric f e g sc hf he hg hs
+
+    current-remembered : (v : View) → currentIn f v ≡ none → currentIn f (remembered key v) ≡ cond (recordFitsIn v) (some (validRecord key)) none
+    unfolding remembered
+    current-remembered v n =
+        let go : (b : Bool) → find (ofFabric f) (cond b (put (ofFabric f) (validRecord key) (v .records)) (v .records)) ≡ cond b (some (validRecord key)) none =
+        λ b. elim b [ true ↦ put-current key fine own-key (v .records) | false ↦ n ] in
+        ap (λ (b : Bool). find (ofFabric f) (cond (b || recordFitsIn v) (put (ofFabric f) (validRecord key) (v .records)) (v .records))) (ap found n) ∙ go (recordFitsIn v)
+
+    stored : (t : Table) → Standing t → currentIn f (viewOf t) ≡ none → placeFor (wordOf key) (viewOf t) ≡ true
+        → currentIn f (viewOf (next (command f e storing) t)) ≡ cond (recordFitsIn (viewOf t)) (some (validRecord key)) none
+    stored t i n q =
+        let x = entryOf key (timeOf (find (keyIs (wordOf key)) (viewOf t .entries))) ([] ++ (endOfContainer ∷ [])) in
+        let u = invalidated (Scene key) (written x (viewOf t)) in
+        let c : currentIn f u ≡ none = current-invalidated f (Scene key) (written x (viewOf t)) ∙ ap (Option·map (cleared (Scene key))) n in
+        let a : sees (command f e storing) t ≡ (done true, remembered key u) =
+        rw q at (laws .commands f e t (i .intact) hf he .store-acts g sc Yes [] (hg, hs, refl) (store-let key (record { fabric = f1; scene = plain }) maxFields (omega arith))) in
+        ap (λ (o : Seen). currentIn f (o .1)) a ∙ current-remembered u c ∙ ap (λ (b : Bool). cond b (some (validRecord key)) none) (fits-invalidated (Scene key) (written x (viewOf t)))
+
+    tells : (s t : Table) → Pair f s t → currentIn f (viewOf s) ≡ none → currentIn f (viewOf t) ≡ none
+        → placeFor (wordOf key) (viewOf s) ≡ true → placeFor (wordOf key) (viewOf t) ≡ true → recordFitsIn (viewOf s) ≡ recordFitsIn (viewOf t)
+    tells s t p ns nt ps pt =
+        let r = records (next (command f e storing) s) (next (command f e storing) t) (moves s t p e storing (hf, he, (hg, hs, refl)) refl) .scene in
+        let part : Option ℕ → ℕ = told (λ w. sceneOf (keyOfRecord w)) in
+        let scene : (b : Bool) → part (cond b (some (validRecord key)) none) ≡ cond b sc 0 =
+        λ b. elim b [ true ↦ ap sceneOf (record-key (wordOf key) (fine .small)) ∙ key-scene f e g sc hf he hg hs | false ↦ refl ] in
+        let one : 1 ≤ sc = omega (arith, eqb-false sc 0 (or-none (eqb sc 0) (eqb sc 255) plain .0)) in
+        let same : (b c : Bool) → cond b sc 0 ≡ cond c sc 0 → b ≡ c =
+        λ b. elim b [ true ↦ λ c. elim c [ true ↦ λ _. refl | false ↦ λ q. absurd (omega arith) ] | false ↦ λ c. elim c [ true ↦ λ q. absurd (omega arith) | false ↦ λ _. refl ] ] in
+        same (recordFitsIn (viewOf s)) (recordFitsIn (viewOf t))
+        (sym (scene (recordFitsIn (viewOf s))) ∙ ap part (sym (stored s (p .left) ns ps)) ∙ r ∙ ap part (stored t (p .right) nt pt) ∙ scene (recordFitsIn (viewOf t)))
+
+  oneMore : (s t : Table) → Pair f s t → currentIn f (viewOf s) ≡ none → 0 < usedIn f (viewOf s) + freeIn (viewOf s) → recordFitsIn (viewOf s) ≡ recordFitsIn (viewOf t)
+  oneMore s t p n alive =
+      let es = viewOf s .entries in
+      let m : currentIn f (viewOf t) ≡ none = no-record (currentIn f (viewOf s)) (currentIn f (viewOf t)) (recorded s t p) n in
+      (elim (find (mine f) es) as (λ o. find (mine f) es ≡ o → recordFitsIn (viewOf s) ≡ recordFitsIn (viewOf t)) [
+        | none ↦ λ z.
+            let u = unused s t p in
+            let more : ltb (length es) (viewOf s .size) ≡ true = lt-ltb (length es) (viewOf s .size) (omega (arith, find-none (mine f) es z)) in
+            tells (u .e) 0 1 (u .fits .1) (omega arith) (omega arith) refl s t p n m (ap₂ _||_ (u .here) more) (ap₂ _||_ (u .there) (sym (room-same s t p) ∙ more))
+        | some x ↦ λ z.
+            let k = x .key in
+            let mineX : fabricOf k ≡ f = eqb-true (fabricOf k) f (find-passes (mine f) es x z) in
+            let q = parts f k mineX (key-fine k (fine-entry x (bit-zero (bad x) (omega (arith, find-counts bad (mine f) es x z, p .left .inv .good .fine))) .0)) in
+            let here : has (keyIs k) es ≡ true = has-count (keyIs k) es (omega (arith, find-counts (keyIs k) (mine f) es x z, ap bit (eq-eqb k k refl))) in
+            let there : has (keyIs k) (viewOf t .entries) ≡ true = sym (ap found (finds s t p k mineX)) ∙ here in
+            tells (q .e) (q .g) (q .s) (q .he) (q .hg) (q .hs) (q .plain) s t p n m
+            (subst (λ (w : ℕ). placeFor w (viewOf s) ≡ true) (q .is) (ap (λ (b : Bool). b || ltb (length es) (viewOf s .size)) here))
+            (subst (λ (w : ℕ). placeFor w (viewOf t) ≡ true) (q .is) (ap (λ (b : Bool). b || ltb (length (viewOf t .entries)) (viewOf t .size)) there))
+      ]) refl
+
+  -- ---- the four matters
+
+  pub agree : (s t : Table) → Standing s → Standing t → s .state .size ≡ t .state .size → Equivalent f s t → Agree f s t
+  unfolding viewOf
+  agree s t i j z see =
+      let p : Pair f s t = record { left = i; right = j; see = see } in
+      let fits : (u : Table) → sound u ≡ true → recordFitsIn (viewOf u) ≡ ltb (u .state .recorded) (u .state .size) =
+      λ u S. ap (λ (n : ℕ). ltb n (u .state .size)) (records-length u S) in
+      record {
+        places = omega (arith, places (freeIn (viewOf s)) s t p z refl, entries-length s, entries-length t);
+        scenes = scenes-perm (keep (mine f) (entriesIn s)) (keep (mine f) (entriesIn t)) (λ q.
+            count-keep q (mine f) (entriesIn s)
+            ∙ counts f (entriesIn s) (entriesIn t) (i .inv .good) (j .inv .good) (finds s t p) (λ x. mine f x && q x) (λ x e. both (mine f x) (q x) e .0)
+            ∙ sym (count-keep q (mine f) (entriesIn t)));
+        recorded = recorded s t p;
+        oneMore = λ n h. sym (fits s (i .intact)) ∙ oneMore s t p n (omega (arith, h, entries-length s)) ∙ fits t (j .intact);
+      }

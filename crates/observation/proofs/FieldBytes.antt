@@ -1,0 +1,72 @@
+-- The field bytes at the position that a view or a recall's lookup answers are those of the scene that was asked for, and none where it
+-- was refused. Assumes nothing.
+use Prim.Native.Nat.{ℕ, _≤_, _<_}
+use mathlib.Core.Path.{_≡_, refl, subst}
+use mathlib.Core.Bool.{Bool, true, false, cond, _&&_}
+use mathlib.Core.List.{List, []}
+use native.Mathlib.Omega.{arith}
+use lib.Dec.{eqb, ltb}
+use borrow.Author.Tests.{lt-ltb, le-ltb, eqb-true, eqb-false}
+use Rattle.words.specs.Constants.{success, notFound, maxScenes}
+use Rattle.words.specs.declared.Found.{Found}
+use Rattle.words.specs.declared.Found.the-variants.{At, Nothing}
+use Rattle.words.specs.Words.{wordOf}
+use Rattle.words.specs.declared.SceneKey.{SceneKey}
+use Rattle.slots.specs.Slots.{entryAt, fieldsAt}
+use Rattle.requests.specs.declared.Membership.{Membership}
+use Rattle.requests.specs.Requests.{lookupGate}
+use Rattle.scenes.specs.declared.Transition.{Transition}
+use Rattle.scenes.specs.declared.Transition.the-variants.{Stored}
+use Rattle.scenes.specs.declared.SceneRead.{SceneRead}
+use Rattle.scenes.specs.Table.{Table}
+use Rattle.scenes.specs.Sound.{sound}
+use Rattle.scenes.specs.Change.{findScene}
+use Rattle.scenes.specs.Answer.{refusalOf, guarded}
+use Rattle.scenes.specs.Reads.{unread, readAt, recallLookup, viewScene, fieldBytes}
+use Rattle.scenes.proofs.Laws.{sound-fits, found-under}
+use Rattle.scenes.proofs.Guard.{when-refused, when-passed, passed-sound}
+
+-- what a read that succeeded says of its scene, and a refused one of no scene
+pub record Tied (key : SceneKey) (t : Table) (r : SceneRead) : Type 0 where
+  pub found : r .status ≡ success → findScene key t ≡ At (r .at)
+  pub fields : r .status ≡ success → fieldBytes (r .at) t ≡ entryAt (t .slots) (r .at) .fields
+  pub nothing : (r .status ≡ success → ⊥) → fieldBytes (r .at) t ≡ []
+
+-- no table has an entry at the position of a refusal
+past : (t : Table) → fieldBytes maxScenes t ≡ []
+unfolding fieldBytes
+past t =
+    (elim (sound t) as (λ b. sound t ≡ b → cond (b && ltb maxScenes (t .state .entries)) (fieldsAt (t .slots .fields) maxScenes) [] ≡ []) [
+      | true ↦ λ e. let f = sound-fits t e in rw (le-ltb maxScenes (t .state .entries) (omega arith))
+      | false ↦ λ _. refl
+    ]) refl
+
+refused-tied : (key : SceneKey) (t : Table) (n : ℕ) → (n ≡ success → ⊥) → Tied key t (unread t n)
+refused-tied key t n h = record { found = λ e. absurd (h e); fields = λ e. absurd (h e); nothing = λ _. past t }
+
+read-tied : (key : SceneKey) (t : Table) (o : Transition) → sound t ≡ true → Tied key t (readAt (findScene key t) o t)
+unfolding readAt fieldBytes
+read-tied key t o sd =
+    (elim (findScene key t) as (λ f. findScene key t ≡ f → Tied key t (readAt f o t)) [
+      | At p ↦ λ e.
+          let l : p < t .state .entries = found-under (t .slots .keys) (t .state .entries) (wordOf key) p e in
+          record { found = λ _. e; fields = λ _. rw (sd, lt-ltb p (t .state .entries) l); nothing = λ h. absurd (h refl) }
+      | Nothing ↦ λ e. refused-tied key t notFound (λ z. omega arith)
+    ]) refl
+
+pub lookup-tied : (key : SceneKey) (m : Membership) (o : Transition) (t : Table) → Tied key t (recallLookup key m o t)
+unfolding recallLookup
+lookup-tied key m o t =
+    let n : ℕ = refusalOf t (lookupGate key m) in
+    (elim (eqb n success) as (λ b. eqb n success ≡ b → Tied key t (guarded (unread t) n (readAt (findScene key t) o t))) [
+      | true ↦ λ e.
+          let z = eqb-true n success e in
+          subst (Tied key t) (when-passed (unread t) n (readAt (findScene key t) o t) z) (read-tied key t o (passed-sound t (lookupGate key m) z))
+      | false ↦ λ e.
+          let h = eqb-false n success e in
+          subst (Tied key t) (when-refused (unread t) n (readAt (findScene key t) o t) h) (refused-tied key t n h)
+    ]) refl
+
+pub view-tied : (key : SceneKey) (m : Membership) (t : Table) → Tied key t (viewScene key m t)
+unfolding viewScene recallLookup
+view-tied key m t = lookup-tied key m Stored t

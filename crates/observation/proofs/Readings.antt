@@ -1,0 +1,310 @@
+-- The theorem says what it should: tables that differ and are equivalent for a fabric, tables that are not, and for each nearby
+-- reading of the four matters, or of the runs, a counterexample. Assumes nothing.
+use Prim.Native.Nat.{ℕ, _+_, _*_, _^_, _<_, _≤_}
+use native.Mathlib.Omega.{arith}
+use mathlib.Core.Path.{_≡_, refl, ap}
+use mathlib.Core.Bool.{Bool, true, false}
+use mathlib.Core.List.{List, [], _∷_, List·Permᴰ, List·Permᴰ·nil, List·Permᴰ·cons, List·Permᴰ·swap}
+use mathlib.Core.Option.{Option, none, some, Option·map, Option·some-injective}
+use lib.ListN.{replicate}
+use Rattle.words.specs.Constants.{stride}
+use Rattle.words.specs.Conditions.{allOf}
+use Rattle.words.specs.Words.{within, endpointOf, keyOfRecord}
+use Rattle.words.specs.Below.{positions, everyBelow, anyBelow, countBelow, firstBelow, keptBelow, orElse}
+use Rattle.slots.specs.Slots.{firstKey, countKeys, keysSound, lengthsSound, overlay, putSlot, copySlot, laid, scenesInside}
+use Rattle.records.specs.Records.{recordsSound, firstOwned, rememberAt, remember, inScope, anyHit, mapFirst, invalidated}
+use Rattle.requests.specs.declared.Membership.the-variants.{Yes}
+use Rattle.requests.specs.Requests.{orNext, firstRefusal, memberGate, pairsGate, addGate, storeGate, lookupGate, groupGate, copyGate}
+use Rattle.scenes.specs.Table.{Table, tableOf, newState, entriesIn, recordsIn}
+use Rattle.scenes.specs.Sound.{fits, sound}
+use Rattle.scenes.specs.Capacity.{roomFor, remaining}
+use Rattle.scenes.specs.Current.{rememberCurrent, invalidateCurrent}
+use Rattle.scenes.specs.Change.{putAt, append, upsertAt, upsert, swapRemove}
+use Rattle.scenes.specs.Answer.{refusalOf, guarded}
+use Rattle.scenes.specs.Commands.{addScene, stored, storeCaptured, storeScene, removeFound, removeScene}
+use Rattle.scenes.specs.Copy.{copyTo, copyEntry, copyWalk, copySources, copied, copyScenesInner, copyScene}
+use Rattle.scenes.specs.Reads.{readAt, viewScene, fieldBytes, listIds, getSceneMembership}
+use Rattle.observation.specs.Lists.{bit, count}
+use Rattle.observation.specs.Calls.{Command, add, view, remove, store, copy, membership, Call, command, does, step, answer, next, Fits}
+use Rattle.observation.proofs.Theorem.{demand3}
+use Rattle.observation.specs.Equivalence.{Reached, empty, after, Equivalent, Agree, SeenRecord, seen, free, mine, scenesOf, currentOf, recordFits, own}
+
+-- an empty table of n places
+abbrev blank : ℕ → Table
+blank n = tableOf (newState n) (replicate n 0) (replicate n 0) (replicate (n * stride) 0) (replicate n 0)
+
+-- a fabric adds, stores or removes a scene of group 0 on an endpoint
+abbrev adds : ℕ → ℕ → ℕ → Call
+adds f e s = command f e (add 0 s 5 Yes [] [])
+
+abbrev stores : ℕ → ℕ → ℕ → Call
+stores f e s = command f e (store 0 s Yes [])
+
+abbrev removes : ℕ → ℕ → ℕ → Call
+removes f e s = command f e (remove 0 s Yes)
+
+-- group, scene and whether valid
+abbrev bare : SeenRecord → List ℕ
+bare r = r .group ∷ r .scene ∷ bit (r .valid) ∷ []
+
+-- ---- the tables
+
+-- a record of scene 9 of an endpoint, no longer valid
+abbrev invalidOn : ℕ → Table
+invalidOn e = next (removes 1 e 9) (next (stores 1 e 9) (blank 2))
+
+-- scene 9 stored on two endpoints: the record is of the second
+abbrev validOn : ℕ → ℕ → Table
+validOn d e = next (stores 1 e 9) (next (stores 1 d 9) (blank 2))
+
+-- another fabric fills the only place, with or without a record
+abbrev filled : Table
+filled = next (adds 2 1 3) (blank 1)
+
+abbrev filledRecorded : Table
+filledRecorded = next (stores 2 1 3) (blank 1)
+
+-- another fabric's record alone takes the only place for records
+abbrev recordedOnly : Table
+recordedOnly = next (removes 2 1 3) (next (stores 2 1 3) (blank 1))
+
+-- another fabric takes one of two places
+abbrev oneTaken : Table
+oneTaken = next (adds 2 1 3) (blank 2)
+
+-- two scenes in either order
+abbrev two : ℕ → ℕ → Table
+two a b = next (adds 1 1 b) (next (adds 1 1 a) (blank 2))
+
+-- scenes 1 and 2 of group 1, in either order, in a table of seven places
+abbrev grouped : ℕ → ℕ → Table
+grouped a b = next (command 1 1 (add 1 b 5 Yes [] [])) (next (command 1 1 (add 1 a 5 Yes [] [])) (blank 7))
+
+-- the same key twice, which no call leaves
+abbrev repeated : ℕ → ℕ → Table
+repeated a b =
+    tableOf (record { size = 2; entries = 2; recorded = 0; dataver = 0 }) (0x10001000001 ∷ 0x10001000001 ∷ []) (a ∷ b ∷ []) (replicate (2 * stride) 0) (0 ∷ 0 ∷ [])
+
+-- ---- they are reached
+
+blank-reached : (n : ℕ) → sound (blank n) ≡ true → Reached (blank n)
+blank-reached n s = empty (blank n) s refl refl
+
+blanks : (sound (blank 1) ≡ true) × (sound (blank 2) ≡ true) × (sound (blank 7) ≡ true)
+unfolding sound fits allOf keysSound lengthsSound recordsSound everyBelow
+blanks = (refl, refl, refl)
+
+one-reached : Reached (blank 1)
+one-reached = blank-reached 1 (blanks .0)
+
+two-reached : Reached (blank 2)
+two-reached = blank-reached 2 (blanks .1)
+
+added : (f e g s : ℕ) {t : Table} → f < 2 ^ 8 → e < 2 ^ 16 → g < 2 ^ 16 → s < 2 ^ 8 → Reached t → Reached (next (command f e (add g s 5 Yes [] [])) t)
+added f e g s hf he hg hs r = after (command f e (add g s 5 Yes [] [])) (hf, he, (hg, hs, omega arith, refl, refl)) r
+
+storing : (f e s : ℕ) {t : Table} → f < 2 ^ 8 → e < 2 ^ 16 → s < 2 ^ 8 → Reached t → Reached (next (stores f e s) t)
+storing f e s hf he hs r = after (stores f e s) (hf, he, (omega arith, hs, refl)) r
+
+removing : (f e s : ℕ) {t : Table} → f < 2 ^ 8 → e < 2 ^ 16 → s < 2 ^ 8 → Reached t → Reached (next (removes f e s) t)
+removing f e s hf he hs r = after (removes f e s) (hf, he, (omega arith, hs)) r
+
+invalid-reached : (e : ℕ) → e < 2 ^ 16 → Reached (invalidOn e)
+invalid-reached e h = removing 1 e 9 (omega arith) h (omega arith) (storing 1 e 9 (omega arith) h (omega arith) two-reached)
+
+valid-reached : (d e : ℕ) → d < 2 ^ 16 → e < 2 ^ 16 → Reached (validOn d e)
+valid-reached d e hd he = storing 1 e 9 (omega arith) he (omega arith) (storing 1 d 9 (omega arith) hd (omega arith) two-reached)
+
+filled-reached : Reached filled
+filled-reached = added 2 1 0 3 (omega arith) (omega arith) (omega arith) (omega arith) one-reached
+
+recorded-reached : Reached filledRecorded
+recorded-reached = storing 2 1 3 (omega arith) (omega arith) (omega arith) one-reached
+
+only-reached : Reached recordedOnly
+only-reached = removing 2 1 3 (omega arith) (omega arith) (omega arith) recorded-reached
+
+taken-reached : Reached oneTaken
+taken-reached = added 2 1 0 3 (omega arith) (omega arith) (omega arith) (omega arith) two-reached
+
+both-reached : (a b : ℕ) → a < 2 ^ 8 → b < 2 ^ 8 → Reached (two a b)
+both-reached a b ha hb = added 1 1 0 b (omega arith) (omega arith) (omega arith) hb (added 1 1 0 a (omega arith) (omega arith) (omega arith) ha two-reached)
+
+grouped-reached : (a b : ℕ) → a < 2 ^ 8 → b < 2 ^ 8 → Reached (grouped a b)
+grouped-reached a b ha hb =
+    added 1 1 1 b (omega arith) (omega arith) (omega arith) hb (added 1 1 1 a (omega arith) (omega arith) (omega arith) ha (blank-reached 7 (blanks .2)))
+
+-- ---- what they agree on
+
+invalid-agree : Agree 1 (invalidOn 0) (invalidOn 1)
+unfolding does step guarded refusalOf sound fits allOf keysSound lengthsSound recordsSound everyBelow addScene addGate pairsGate storeScene storeGate firstRefusal orNext memberGate storeCaptured stored upsert upsertAt firstKey firstBelow orElse append putAt putSlot overlay invalidateCurrent anyHit anyBelow invalidated mapFirst rememberCurrent remember rememberAt firstOwned removeScene lookupGate removeFound swapRemove copySlot inScope entriesIn recordsIn positions
+invalid-agree = record { places = refl; scenes = List·Permᴰ·nil; recorded = refl; oneMore = λ n h. refl }
+
+filled-agree : Agree 1 filled filledRecorded
+unfolding does step guarded refusalOf sound fits allOf keysSound lengthsSound recordsSound everyBelow addScene addGate pairsGate storeScene storeGate firstRefusal orNext memberGate storeCaptured stored upsert upsertAt firstKey firstBelow orElse append putAt putSlot overlay invalidateCurrent anyHit anyBelow invalidated mapFirst rememberCurrent remember rememberAt firstOwned removeScene lookupGate removeFound swapRemove copySlot inScope entriesIn recordsIn positions
+filled-agree = record { places = refl; scenes = List·Permᴰ·nil; recorded = refl; oneMore = λ n h. absurd (omega arith) }
+
+two-agree : Agree 1 (two 7 8) (two 8 7)
+unfolding does step guarded refusalOf sound fits allOf keysSound lengthsSound recordsSound everyBelow addScene addGate pairsGate storeScene storeGate firstRefusal orNext memberGate storeCaptured stored upsert upsertAt firstKey firstBelow orElse append putAt putSlot overlay invalidateCurrent anyHit anyBelow invalidated mapFirst rememberCurrent remember rememberAt firstOwned removeScene lookupGate removeFound swapRemove copySlot inScope entriesIn recordsIn positions
+two-agree = record { places = refl; scenes = List·Permᴰ·swap refl refl; recorded = refl; oneMore = λ n h. refl }
+
+grouped-agree : Agree 1 (grouped 1 2) (grouped 2 1)
+unfolding does step guarded refusalOf sound fits allOf keysSound lengthsSound recordsSound everyBelow addScene addGate pairsGate storeScene storeGate firstRefusal orNext memberGate storeCaptured stored upsert upsertAt firstKey firstBelow orElse append putAt putSlot overlay invalidateCurrent anyHit anyBelow invalidated mapFirst rememberCurrent remember rememberAt firstOwned removeScene lookupGate removeFound swapRemove copySlot inScope entriesIn recordsIn positions
+grouped-agree = record { places = refl; scenes = List·Permᴰ·swap refl refl; recorded = refl; oneMore = λ n h. refl }
+
+repeated-agree : Agree 1 (repeated 1 2) (repeated 2 1)
+unfolding does step guarded refusalOf sound fits allOf keysSound lengthsSound recordsSound everyBelow addScene addGate pairsGate storeScene storeGate firstRefusal orNext memberGate storeCaptured stored upsert upsertAt firstKey firstBelow orElse append putAt putSlot overlay invalidateCurrent anyHit anyBelow invalidated mapFirst rememberCurrent remember rememberAt firstOwned removeScene lookupGate removeFound swapRemove copySlot inScope entriesIn recordsIn positions
+repeated-agree = record { places = refl; scenes = List·Permᴰ·swap refl refl; recorded = refl; oneMore = λ n h. refl }
+
+-- the tables of each pair have one size
+sizes :
+    (invalidOn 0 .state .size ≡ invalidOn 1 .state .size)
+    × (validOn 1 0 .state .size ≡ validOn 0 1 .state .size)
+    × (filled .state .size ≡ filledRecorded .state .size)
+    × (blank 1 .state .size ≡ recordedOnly .state .size)
+    × (blank 2 .state .size ≡ oneTaken .state .size)
+    × (two 7 8 .state .size ≡ two 8 7 .state .size)
+    × (grouped 1 2 .state .size ≡ grouped 2 1 .state .size)
+unfolding does step guarded refusalOf sound fits allOf keysSound lengthsSound recordsSound everyBelow addScene addGate pairsGate storeScene storeGate firstRefusal orNext memberGate storeCaptured stored upsert upsertAt firstKey firstBelow orElse append putAt putSlot overlay invalidateCurrent anyHit anyBelow invalidated mapFirst rememberCurrent remember rememberAt firstOwned removeScene lookupGate removeFound swapRemove copySlot inScope entriesIn recordsIn positions
+sizes = (refl, refl, refl, refl, refl, refl, refl)
+
+-- ---- where they differ
+
+abbrev endpointsOf : Table → Option ℕ
+endpointsOf t = Option·map (λ w. endpointOf (keyOfRecord w)) (currentOf 1 t)
+
+invalid-endpoints : endpointsOf (invalidOn 0) ≡ endpointsOf (invalidOn 1) → ⊥
+unfolding does step guarded refusalOf sound fits allOf keysSound lengthsSound recordsSound everyBelow addScene addGate pairsGate storeScene storeGate firstRefusal orNext memberGate storeCaptured stored upsert upsertAt firstKey firstBelow orElse append putAt putSlot overlay invalidateCurrent anyHit anyBelow invalidated mapFirst rememberCurrent remember rememberAt firstOwned removeScene lookupGate removeFound swapRemove copySlot inScope entriesIn recordsIn positions
+invalid-endpoints e = let z : _≡_ {A = ℕ} 0 1 = cc in omega arith
+
+valid-differ : Option·map seen (currentOf 1 (validOn 1 0)) ≡ Option·map seen (currentOf 1 (validOn 0 1)) → ⊥
+unfolding does step guarded refusalOf sound fits allOf keysSound lengthsSound recordsSound everyBelow addScene addGate pairsGate storeScene storeGate firstRefusal orNext memberGate storeCaptured stored upsert upsertAt firstKey firstBelow orElse append putAt putSlot overlay invalidateCurrent anyHit anyBelow invalidated mapFirst rememberCurrent remember rememberAt firstOwned removeScene lookupGate removeFound swapRemove copySlot inScope entriesIn recordsIn positions
+valid-differ e = omega (arith, ap (λ (r : SeenRecord). r .endpoint) (Option·some-injective _ _ e))
+
+-- agreement on all but the endpoint
+abbrev Else : Table → Table → Type 0
+Else s t =
+    (free s ≡ free t) × List·Permᴰ (scenesOf 1 s) (scenesOf 1 t)
+    × (Option·map (λ w. bare (seen w)) (currentOf 1 s) ≡ Option·map (λ w. bare (seen w)) (currentOf 1 t)) × (recordFits s ≡ recordFits t)
+
+valid-else : Else (validOn 1 0) (validOn 0 1)
+unfolding does step guarded refusalOf sound fits allOf keysSound lengthsSound recordsSound everyBelow addScene addGate pairsGate storeScene storeGate firstRefusal orNext memberGate storeCaptured stored upsert upsertAt firstKey firstBelow orElse append putAt putSlot overlay invalidateCurrent anyHit anyBelow invalidated mapFirst rememberCurrent remember rememberAt firstOwned removeScene lookupGate removeFound swapRemove copySlot inScope entriesIn recordsIn positions
+valid-else = (refl, List·Permᴰ·swap refl refl, refl, refl)
+
+fits-differ : (currentOf 1 (blank 1) ≡ none → 0 < count (mine 1) (entriesIn (blank 1)) + free (blank 1) → recordFits (blank 1) ≡ recordFits recordedOnly) → ⊥
+unfolding does step guarded refusalOf sound fits allOf keysSound lengthsSound recordsSound everyBelow addScene addGate pairsGate storeScene storeGate firstRefusal orNext memberGate storeCaptured stored upsert upsertAt firstKey firstBelow orElse append putAt putSlot overlay invalidateCurrent anyHit anyBelow invalidated mapFirst rememberCurrent remember rememberAt firstOwned removeScene lookupGate removeFound swapRemove copySlot inScope entriesIn recordsIn positions
+fits-differ e = let q = e refl (omega arith) in let z : _≡_ {A = ℕ} 0 1 = cc in omega arith
+
+fits-else : (free (blank 1) ≡ free recordedOnly) × List·Permᴰ (scenesOf 1 (blank 1)) (scenesOf 1 recordedOnly) × (Option·map seen (currentOf 1 (blank 1)) ≡ Option·map seen (currentOf 1 recordedOnly))
+unfolding does step guarded refusalOf sound fits allOf keysSound lengthsSound recordsSound everyBelow addScene addGate pairsGate storeScene storeGate firstRefusal orNext memberGate storeCaptured stored upsert upsertAt firstKey firstBelow orElse append putAt putSlot overlay invalidateCurrent anyHit anyBelow invalidated mapFirst rememberCurrent remember rememberAt firstOwned removeScene lookupGate removeFound swapRemove copySlot inScope entriesIn recordsIn positions
+fits-else = (refl, List·Permᴰ·nil, refl)
+
+filled-fits : recordFits filled ≡ recordFits filledRecorded → ⊥
+unfolding does step guarded refusalOf sound fits allOf keysSound lengthsSound recordsSound everyBelow addScene addGate pairsGate storeScene storeGate firstRefusal orNext memberGate storeCaptured stored upsert upsertAt firstKey firstBelow orElse append putAt putSlot overlay invalidateCurrent anyHit anyBelow invalidated mapFirst rememberCurrent remember rememberAt firstOwned removeScene lookupGate removeFound swapRemove copySlot inScope entriesIn recordsIn positions
+filled-fits e = let z : _≡_ {A = ℕ} 0 1 = cc in omega arith
+
+places-differ : free (blank 2) ≡ free oneTaken → ⊥
+unfolding does step guarded refusalOf sound fits allOf keysSound lengthsSound recordsSound everyBelow addScene addGate pairsGate storeScene storeGate firstRefusal orNext memberGate storeCaptured stored upsert upsertAt firstKey firstBelow orElse append putAt putSlot overlay invalidateCurrent anyHit anyBelow invalidated mapFirst rememberCurrent remember rememberAt firstOwned removeScene lookupGate removeFound swapRemove copySlot inScope entriesIn recordsIn positions
+places-differ e = omega arith
+
+places-else : List·Permᴰ (scenesOf 1 (blank 2)) (scenesOf 1 oneTaken) × (Option·map seen (currentOf 1 (blank 2)) ≡ Option·map seen (currentOf 1 oneTaken)) × (recordFits (blank 2) ≡ recordFits oneTaken)
+unfolding does step guarded refusalOf sound fits allOf keysSound lengthsSound recordsSound everyBelow addScene addGate pairsGate storeScene storeGate firstRefusal orNext memberGate storeCaptured stored upsert upsertAt firstKey firstBelow orElse append putAt putSlot overlay invalidateCurrent anyHit anyBelow invalidated mapFirst rememberCurrent remember rememberAt firstOwned removeScene lookupGate removeFound swapRemove copySlot inScope entriesIn recordsIn positions
+places-else = (List·Permᴰ·nil, refl, refl)
+
+-- membership lists the two scenes in their order
+abbrev listing : Call
+listing = command 1 1 (membership 0 Yes (0 ∷ 0 ∷ []))
+
+ids-differ : answer listing (two 7 8) .ids ≡ answer listing (two 8 7) .ids → ⊥
+unfolding does step guarded refusalOf sound fits allOf keysSound lengthsSound recordsSound everyBelow addScene addGate pairsGate storeScene storeGate firstRefusal orNext memberGate storeCaptured stored upsert upsertAt firstKey firstBelow orElse append putAt putSlot overlay invalidateCurrent anyHit anyBelow invalidated mapFirst rememberCurrent remember rememberAt firstOwned removeScene lookupGate removeFound swapRemove copySlot inScope entriesIn recordsIn positions getSceneMembership groupGate listIds laid scenesInside keptBelow remaining roomFor countKeys countBelow within
+ids-differ e = let z : _≡_ {A = ℕ} 7 8 = cc in omega arith
+
+-- a whole-group copy that runs out is answered alike and leaves another copy: a run that went on would tell
+abbrev copying : Call
+copying = command 1 1 (copy 1 1 0 2 0 Yes Yes)
+
+copies-alike : (answer copying (grouped 1 2) .status ≡ 0x89) × (answer copying (grouped 2 1) .status ≡ 0x89)
+unfolding does step guarded refusalOf sound fits allOf keysSound lengthsSound recordsSound everyBelow addScene addGate pairsGate storeScene storeGate firstRefusal orNext memberGate storeCaptured stored upsert upsertAt firstKey firstBelow orElse append putAt putSlot overlay invalidateCurrent anyHit anyBelow invalidated mapFirst rememberCurrent remember rememberAt firstOwned removeScene lookupGate removeFound swapRemove copySlot inScope entriesIn recordsIn positions copyScene copyGate copyScenesInner copied copySources copyWalk copyEntry copyTo roomFor countKeys countBelow within
+copies-alike = (refl, refl)
+
+abbrev viewing : Call
+viewing = command 1 1 (view 2 1 Yes)
+
+copies-differ : answer viewing (next copying (grouped 1 2)) .status ≡ answer viewing (next copying (grouped 2 1)) .status → ⊥
+unfolding does step guarded refusalOf sound fits allOf keysSound lengthsSound recordsSound everyBelow addScene addGate pairsGate storeScene storeGate firstRefusal orNext memberGate storeCaptured stored upsert upsertAt firstKey firstBelow orElse append putAt putSlot overlay invalidateCurrent anyHit anyBelow invalidated mapFirst rememberCurrent remember rememberAt firstOwned removeScene lookupGate removeFound swapRemove copySlot inScope entriesIn recordsIn positions copyScene copyGate copyScenesInner copied copySources copyWalk copyEntry copyTo roomFor countKeys countBelow within viewScene readAt fieldBytes
+copies-differ e = omega arith
+
+-- tables that were not reached: with a repeated key they may agree and still not be equivalent
+repeated-sound : (sound (repeated 1 2) ≡ true) × (sound (repeated 2 1) ≡ true)
+unfolding sound fits allOf keysSound lengthsSound recordsSound everyBelow
+repeated-sound = (refl, refl)
+
+repeated-differ : answer (command 1 1 (view 0 1 Yes)) (repeated 1 2) .values ≡ answer (command 1 1 (view 0 1 Yes)) (repeated 2 1) .values → ⊥
+unfolding does step guarded refusalOf sound fits allOf keysSound lengthsSound recordsSound everyBelow addScene addGate pairsGate storeScene storeGate firstRefusal orNext memberGate storeCaptured stored upsert upsertAt firstKey firstBelow orElse append putAt putSlot overlay invalidateCurrent anyHit anyBelow invalidated mapFirst rememberCurrent remember rememberAt firstOwned removeScene lookupGate removeFound swapRemove copySlot inScope entriesIn recordsIn positions viewScene readAt fieldBytes
+repeated-differ e = let z : _≡_ {A = ℕ} 1 2 = cc in omega arith
+
+-- ---- the readings, each with its counterexample
+
+same : (s t : Table) → Reached s → Reached t → s .state .size ≡ t .state .size → Agree 1 s t → Equivalent 1 s t
+same s t r q z a = demand3 1 s t (omega arith) (omega arith) r q z .1 a
+
+told : (s t : Table) → Reached s → Reached t → s .state .size ≡ t .state .size → Equivalent 1 s t → Agree 1 s t
+told s t r q z e = demand3 1 s t (omega arith) (omega arith) r q z .0 e
+
+-- "the endpoint is compared always": two tables are equivalent and differ in the endpoint of an invalid record
+pub endpoint-not-always : Equivalent 1 (invalidOn 0) (invalidOn 1) × (endpointsOf (invalidOn 0) ≡ endpointsOf (invalidOn 1) → ⊥)
+endpoint-not-always =
+    (same (invalidOn 0) (invalidOn 1) (invalid-reached 0 (omega arith)) (invalid-reached 1 (omega arith)) (sizes .0) invalid-agree, invalid-endpoints)
+
+-- "the endpoint is compared never": two tables agree on all else, and a notice tells them apart
+pub endpoint-not-never : Else (validOn 1 0) (validOn 0 1) × (Equivalent 1 (validOn 1 0) (validOn 0 1) → ⊥)
+endpoint-not-never =
+    (valid-else, (λ e. valid-differ (told (validOn 1 0) (validOn 0 1) (valid-reached 1 0 (omega arith) (omega arith)) (valid-reached 0 1 (omega arith) (omega arith)) (sizes .1) e .recorded)))
+
+-- "whether one more record fits is compared always": not seen by a fabric without a scene and without a place
+pub fit-not-always : Equivalent 1 filled filledRecorded × (recordFits filled ≡ recordFits filledRecorded → ⊥)
+fit-not-always = (same filled filledRecorded filled-reached recorded-reached (sizes .2) filled-agree, filled-fits)
+
+-- "whether one more record fits is compared never": a fabric that has a place sees it
+pub fit-not-never :
+    (free (blank 1) ≡ free recordedOnly) × List·Permᴰ (scenesOf 1 (blank 1)) (scenesOf 1 recordedOnly)
+    × (Option·map seen (currentOf 1 (blank 1)) ≡ Option·map seen (currentOf 1 recordedOnly))
+    × (Equivalent 1 (blank 1) recordedOnly → ⊥)
+fit-not-never =
+    (fits-else .0, fits-else .1, fits-else .2, (λ e. fits-differ (told (blank 1) recordedOnly one-reached only-reached (sizes .3) e .oneMore)))
+
+-- "free places are left out"
+pub places-not-out :
+    List·Permᴰ (scenesOf 1 (blank 2)) (scenesOf 1 oneTaken)
+    × (Option·map seen (currentOf 1 (blank 2)) ≡ Option·map seen (currentOf 1 oneTaken))
+    × (recordFits (blank 2) ≡ recordFits oneTaken)
+    × (Equivalent 1 (blank 2) oneTaken → ⊥)
+places-not-out =
+    (places-else .0, places-else .1, places-else .2, (λ e. places-differ (told (blank 2) oneTaken two-reached taken-reached (sizes .4) e .places)))
+
+-- "scene lists compare in order": two tables are equivalent and list their scenes in another order
+pub lists-not-in-order : Equivalent 1 (two 7 8) (two 8 7) × (answer listing (two 7 8) .ids ≡ answer listing (two 8 7) .ids → ⊥)
+lists-not-in-order =
+    (same (two 7 8) (two 8 7) (both-reached 7 8 (omega arith) (omega arith)) (both-reached 8 7 (omega arith) (omega arith)) (sizes .5) two-agree, ids-differ)
+
+-- "a run goes on after a whole-group copy that was refused": equivalent tables, both answered 0x89, and a view then tells them apart
+pub runs-not-on :
+    Equivalent 1 (grouped 1 2) (grouped 2 1)
+    × (answer copying (grouped 1 2) .status ≡ 0x89)
+    × (answer copying (grouped 2 1) .status ≡ 0x89)
+    × (answer viewing (next copying (grouped 1 2)) .status ≡ answer viewing (next copying (grouped 2 1)) .status → ⊥)
+runs-not-on = (
+  same (grouped 1 2) (grouped 2 1) (grouped-reached 1 2 (omega arith) (omega arith)) (grouped-reached 2 1 (omega arith) (omega arith)) (sizes .6) grouped-agree,
+  copies-alike .0,
+  copies-alike .1,
+  copies-differ,
+)
+
+-- "the tables need not be reached": two sound tables with a repeated key agree on the four matters, and a view tells them apart
+pub reached-not-idle : (sound (repeated 1 2) ≡ true) × (sound (repeated 2 1) ≡ true) × Agree 1 (repeated 1 2) (repeated 2 1) × (Equivalent 1 (repeated 1 2) (repeated 2 1) → ⊥)
+reached-not-idle = (
+  repeated-sound .0,
+  repeated-sound .1,
+  repeated-agree,
+  (λ e. repeated-differ (e (own 1 (view 0 1 Yes) ∷ []) ((omega arith, omega arith, (omega arith, omega arith)), tt) .0 .values)),
+)

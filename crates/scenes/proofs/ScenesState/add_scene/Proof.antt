@@ -1,0 +1,102 @@
+-- `ScenesState::add_scene` meets its contract. Assumes nothing.
+use mathlib.Core.Path.{_≡_, ap, _∙_}
+use native.Mathlib.Omega.{arith}
+use lib.ListN.{length}
+use Rattle.words.specs.Constants.{success, maxFields}
+use Rattle.requests.specs.Requests.{addGate}
+use Rattle.requests.proofs.Passed.{add-passed}
+use Rattle.scenes.specs.Table.{Table, tableOf, Room}
+use Rattle.scenes.specs.Answer.{refusalOf}
+use Rattle.scenes.specs.Commands.{saved, addScene}
+use Rattle.scenes.proofs.Guard.{when-passed, passed-gate}
+use Rattle.scenes.proofs.CommandLaws.{passes, passed-room, refuses-outcome, found-scene}
+use borrow.Author.Needs.{needs}
+use Rattle.scenes.proofs.ScenesState.add_scene.Statement.{statement}
+use Rattle.scenes.proofs.ScenesState.add_scene.Tie as tie
+
+-- the entry of the call, and the table that came in
+abbrev start : tie.After-refusal → tie.Start
+start c = c .before .before .before .before .before .before .before .before .before .before .before .before
+
+abbrev came : tie.After-refusal → Table
+came c = let a = start c .args in tableOf (a .self) (a .keys .now) (a .times .now) (a .fields .now) (a .records .now)
+
+passed : (c : tie.Else1)
+    → (let a = start (c .before) .args in refusalOf (came (c .before)) (addGate (a .key) (a .time) (a .member) (a .pairs .now) maxFields (length (a .ext .now)))) ≡ success
+passed c = passes _ _ _ _ (c .before .before .before .before .before .before .add-gate .ensures) (c .before .refusal .ensures) (c .if1 .left)
+
+room : (c : tie.Else1) → Room (came (c .before))
+room c = passed-room _ _ (passed c)
+
+add-gate-requires : tie.Need-add-gate-requires
+add-gate-requires c κs = search needs
+
+refusal-requires : tie.Need-refusal-requires
+refusal-requires c κs = search needs
+
+refused-requires : tie.Need-refused-requires
+refused-requires c κs = search needs
+
+same-length : tie.Need-same-length
+same-length c = search needs
+
+same-length-2 : tie.Need-same-length-2
+same-length-2 c = search needs
+
+same-length-3 : tie.Need-same-length-3
+same-length-3 c = search needs
+
+same-length-4 : tie.Need-same-length-4
+same-length-4 c = search needs
+
+returns : tie.Need-returns
+unfolding addScene
+returns c = refuses-outcome (came (c .before .before)) _ _ _ (c .before .before .before .before .before .before .before .add-gate .ensures) (c .before .before .refusal .ensures) _ _ (c .refused .ensures) (c .before .if1 .taken)
+
+word-requires : tie.Need-word-requires
+word-requires c κs = search needs
+
+find-requires : tie.Need-find-requires
+find-requires c κs = let h = room (c .before .before) in omega arith
+
+upsert-scene-requires : tie.Need-upsert-scene-requires
+upsert-scene-requires c κs =
+    let p = c .before .before .before .before .before .before .before in
+    (room p, (found-scene _ (came (p .before)) _ _ (c .before .before .before .before .before .word .ensures) (c .before .before .before .before .find .ensures), add-passed _ _ _ _ _ _ (passed-gate _ _ (passed p)) .1))
+
+same-length-5 : tie.Need-same-length-5
+same-length-5 c = search needs
+
+same-length-6 : tie.Need-same-length-6
+same-length-6 c = search needs
+
+same-length-7 : tie.Need-same-length-7
+same-length-7 c = search needs
+
+same-length-8 : tie.Need-same-length-8
+same-length-8 c = search needs
+
+returns-2 : tie.Need-returns-2
+unfolding addScene
+returns-2 c = ap saved (c .before .before .before .before .before .before .before .before .before .upsert-scene .ensures) ∙ when-passed _ _ _ (passed (c .before .before .before .before .before .before .before .before .before .before .before .before .before .before .before .before .before))
+
+pub add-scene-spec : {M : Type 1} → statement M
+add-scene-spec =
+    tie.close
+    (tie.spec
+    add-gate-requires
+    refusal-requires
+    refused-requires
+    same-length
+    same-length-2
+    same-length-3
+    same-length-4
+    returns
+    word-requires
+    find-requires
+    upsert-scene-requires
+    same-length-5
+    same-length-6
+    same-length-7
+    same-length-8
+    returns-2)

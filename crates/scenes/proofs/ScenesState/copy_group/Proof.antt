@@ -1,0 +1,184 @@
+-- `ScenesState::copy_group` meets its contract: what is left of the walk at turn i answers as the whole walk, and there is room for
+-- the next copy. Assumes nothing.
+use Prim.Native.Nat.{ℕ, _+_, _-_, _≤_, _<_}
+use mathlib.Core.Path.{_≡_, refl, sym, ap, _∙_, subst⁻¹}
+use mathlib.Core.Bool.{true, false}
+use native.Mathlib.Omega.{arith}
+use borrow.Author.Needs.{needs}
+use lib.ListN.{getD}
+use Rattle.words.specs.Constants.{success}
+use Rattle.words.specs.Words.{within, groupKeys, sceneOf}
+use Rattle.words.specs.declared.GroupKey.{GroupKey}
+use Rattle.words.specs.declared.KeyRange.{KeyRange}
+use Rattle.slots.proofs.View.{SameLengths}
+use Rattle.scenes.specs.Table.{Entries, entriesOf, EntryRoom}
+use Rattle.scenes.specs.Copy.{Copied, copyEntry, keyIn, copyWalk}
+use Rattle.scenes.proofs.CopyLaws.{Kept, copy-kept, walk-start, walk-end, walk-skip, walk-stop, walk-step}
+use Rattle.scenes.proofs.ScenesState.copy_group.Statement.{statement}
+use Rattle.scenes.proofs.ScenesState.copy_group.Tie as tie
+
+abbrev keysOf : GroupKey → KeyRange
+keysOf g = groupKeys (g .fabric) (g .endpoint) (g .group)
+
+-- the source's scene in the target group
+named : (to : GroupKey) (i word : ℕ) (e : Entries) {scene : ℕ} → scene ≡ sceneOf word
+    → copyEntry i (record { fabric = to .fabric; endpoint = to .endpoint; group = to .group; scene = scene }) e ≡ copyEntry i (keyIn to word) e
+named to i word e q = rw q
+
+-- e₀, s₀ and e, s are the entries and the status at the start and at turn i
+record Turn (to : GroupKey) (n : ℕ) (r : KeyRange) (e₀ : Entries) (s₀ : ℕ) (e : Entries) (s i : ℕ) : Type 0 where
+  reached : i ≤ n
+  room : EntryRoom e
+  entries : n ≤ e .state .entries
+  lengths : SameLengths (e .slots) (e₀ .slots)
+  walk : (from : GroupKey) → r ≡ keysOf from → copyWalk from to (n - i) i s e ≡ copyWalk from to n 0 s₀ e₀
+
+module _ {to : GroupKey} {n : ℕ} {r : KeyRange} {e₀ : Entries} {s₀ : ℕ} {e : Entries} {s i : ℕ} (t : Turn to n r e₀ s₀ e s i) (h : i < n) where
+  skip : within r (getD (e .slots .keys) i 0) ≡ false → Turn to n r e₀ s₀ e s (i + 1)
+  skip q = record {
+    reached = omega arith;
+    room = t .room;
+    entries = t .entries;
+    lengths = t .lengths;
+    walk = λ from x. sym (walk-skip from to n i s e h (ap (λ (k : KeyRange). within k (getD (e .slots .keys) i 0)) (sym x) ∙ q)) ∙ t .walk from x;
+  }
+
+  -- the entry at i is a source, and o what its copy makes
+  module _ (q : within r (getD (e .slots .keys) i 0) ≡ true) {o : Copied} (w : o ≡ copyEntry i (keyIn to (getD (e .slots .keys) i 0)) e) where
+    kept : Kept e (o .entries)
+    kept = subst⁻¹ (λ (u : Copied). Kept e (u .entries)) w (copy-kept i (keyIn to (getD (e .slots .keys) i 0)) e (t .room) (omega arith))
+
+    step : o .status ≡ success → SameLengths (o .entries .slots) (e .slots) → Turn to n r e₀ s₀ (o .entries) (o .status) (i + 1)
+    step z l = record {
+      reached = omega arith;
+      room = kept .room;
+      entries = omega (arith, kept .entries);
+      lengths = record { keys = l .keys ∙ t .lengths .keys; times = l .times ∙ t .lengths .times; fields = l .fields ∙ t .lengths .fields };
+      walk = λ from x.
+          sym (walk-step from to n i s e o h (ap (λ (k : KeyRange). within k (getD (e .slots .keys) i 0)) (sym x) ∙ q) w z) ∙ t .walk from x;
+    }
+
+    stop : (o .status ≡ success → ⊥) → (from : GroupKey) → r ≡ keysOf from → o ≡ copyWalk from to n 0 s₀ e₀
+    stop z from x =
+        sym (walk-stop from to n i s e o h (ap (λ (k : KeyRange). within k (getD (e .slots .keys) i 0)) (sym x) ∙ q) w z) ∙ t .walk from x
+
+abbrev Inv-loop : tie.InvT-loop
+Inv-loop keys₀ times₀ fields₀ to n range state₀ status₀ i₀ keys times fields state status i =
+    Turn to n range (entriesOf state₀ keys₀ times₀ fields₀) status₀ (entriesOf state keys times fields) status i
+
+abbrev μ-loop : tie.MeasureT-loop
+μ-loop keys₀ times₀ fields₀ to n range state₀ status₀ i₀ keys times fields state status i = n - i
+
+of-group-requires : tie.Need-of-group-requires Inv-loop μ-loop
+of-group-requires c κs = search needs
+
+loop-holds : tie.Need-loop-holds Inv-loop μ-loop
+loop-holds c = record {
+  reached = omega arith;
+  room = c .before .before .before .before .pre;
+  entries = omega arith;
+  lengths = record { keys = refl; times = refl; fields = refl };
+  walk = λ from _. walk-start from _ _ _ _;
+}
+
+mul-word : tie.Need-mul-word Inv-loop μ-loop
+mul-word c = omega arith
+
+slice-read-word : tie.Need-slice-read-word Inv-loop μ-loop
+slice-read-word c = omega arith
+
+holds-requires : tie.Need-holds-requires Inv-loop μ-loop
+holds-requires c κs = search needs
+
+scene-of-requires : tie.Need-scene-of-requires Inv-loop μ-loop
+scene-of-requires c κs = search needs
+
+copy-entry-requires : tie.Need-copy-entry-requires Inv-loop μ-loop
+copy-entry-requires c κs = let turn = c .before .before .before .before .before .before .before .before .loop .inv in (turn .room, omega arith)
+
+same-length : tie.Need-same-length Inv-loop μ-loop
+same-length c = c .before .before .before .before .before .before .before .before .copy-entry .kept .1 .0 ∙ c .before .before .before .before .before .before .before .before .before .before .before .before .before .before .before .before .before .loop .inv .lengths .keys
+
+same-length-2 : tie.Need-same-length-2 Inv-loop μ-loop
+same-length-2 c = c .before .before .before .before .before .before .before .before .copy-entry .kept .1 .1 .0 ∙ c .before .before .before .before .before .before .before .before .before .before .before .before .before .before .before .before .before .loop .inv .lengths .times
+
+same-length-3 : tie.Need-same-length-3 Inv-loop μ-loop
+same-length-3 c = c .before .before .before .before .before .before .before .before .copy-entry .kept .1 .1 .1 .0 ∙ c .before .before .before .before .before .before .before .before .before .before .before .before .before .before .before .before .before .loop .inv .lengths .fields
+
+returns : tie.Need-returns Inv-loop μ-loop
+returns c =
+    let call = c .before .before .before .before .before .before .before .before in
+    let branch = call .before .before .before .before .before in
+    let at = branch .before .before .before .before in
+    let a = at .before .before .before .before .before .args in
+    stop (at .loop .inv) (branch .before .before .before .loop-test .taken) (sym (branch .before .holds .ensures) ∙ branch .if1 .taken)
+    (call .copy-entry .ensures ∙ named (a .to) (at .loop .i) _ _ (call .before .before .before .before .scene-of .ensures))
+    (c .if2 .taken) (a .from) (at .before .of-group .ensures)
+
+add-i : tie.Need-add-i Inv-loop μ-loop
+add-i c = omega (arith, c .before .before .before .before .before .before .before .before .before .before .before .before .before .before .before .before .loop-test .taken)
+
+loop-less : tie.Need-loop-less Inv-loop μ-loop
+loop-less c = omega (arith, c .before .before .before .before .before .before .before .before .before .before .before .before .before .before .before .before .loop-test .taken)
+
+loop-again : tie.Need-loop-again Inv-loop μ-loop
+loop-again c =
+    let call = c .before .before .before .before .before .before .before .before in
+    let branch = call .before .before .before .before .before in
+    let at = branch .before .before .before .before in
+    let a = at .before .before .before .before .before .args in
+    let kept = call .copy-entry .kept .1 in
+    step (at .loop .inv) (branch .before .before .before .loop-test .taken) (sym (branch .before .holds .ensures) ∙ branch .if1 .taken)
+    (call .copy-entry .ensures ∙ named (a .to) (at .loop .i) _ _ (call .before .before .before .before .scene-of .ensures))
+    (c .if2 .left) (record { keys = kept .0; times = kept .1 .0; fields = kept .1 .1 .0 })
+
+add-i-2 : tie.Need-add-i-2 Inv-loop μ-loop
+add-i-2 c = omega arith
+
+loop-less-2 : tie.Need-loop-less-2 Inv-loop μ-loop
+loop-less-2 c = omega arith
+
+loop-again-2 : tie.Need-loop-again-2 Inv-loop μ-loop
+loop-again-2 c = skip (c .before .before .before .before .loop .inv) (c .before .before .before .loop-test .taken) (sym (c .before .holds .ensures) ∙ c .if1 .left)
+
+same-length-4 : tie.Need-same-length-4 Inv-loop μ-loop
+same-length-4 c = c .before .loop .inv .lengths .keys
+
+same-length-5 : tie.Need-same-length-5 Inv-loop μ-loop
+same-length-5 c = c .before .loop .inv .lengths .times
+
+same-length-6 : tie.Need-same-length-6 Inv-loop μ-loop
+same-length-6 c = c .before .loop .inv .lengths .fields
+
+returns-2 : tie.Need-returns-2 Inv-loop μ-loop
+returns-2 c =
+    let at = c .before in
+    sym (walk-end _ _ _ _ _ _ (c .loop-test .left)) ∙ at .loop .inv .walk (at .before .before .before .before .before .args .from) (at .before .of-group .ensures)
+
+pub copy-group-spec : {M : Type 1} → statement M
+copy-group-spec =
+    tie.close
+    (tie.spec
+    Inv-loop
+    μ-loop
+    of-group-requires
+    loop-holds
+    mul-word
+    slice-read-word
+    holds-requires
+    scene-of-requires
+    copy-entry-requires
+    same-length
+    same-length-2
+    same-length-3
+    returns
+    add-i
+    loop-less
+    loop-again
+    add-i-2
+    loop-less-2
+    loop-again-2
+    same-length-4
+    same-length-5
+    same-length-6
+    returns-2)

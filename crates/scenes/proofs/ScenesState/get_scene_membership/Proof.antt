@@ -1,0 +1,132 @@
+-- `ScenesState::get_scene_membership` meets its contract. Assumes nothing.
+use Prim.Native.Nat.{ℕ, _≤_, _<_}
+use mathlib.Core.Path.{_≡_, sym, ap, _∙_}
+use mathlib.Core.List.{List}
+use native.Mathlib.Omega.{arith}
+use lib.ListN.{length}
+use borrow.Author.Needs.{needs}
+use borrow.Author.Tests.{lt-ltb, le-ltb}
+use Rattle.words.specs.Constants.{success, listTooLong}
+use Rattle.words.specs.Words.{groupKeys}
+use Rattle.words.specs.declared.GroupKey.{GroupKey}
+use Rattle.words.specs.declared.KeyRange.{KeyRange}
+use Rattle.slots.specs.Slots.{countKeys, scenesInside, laid}
+use Rattle.slots.proofs.Laws.{scenes-length}
+use Rattle.scenes.specs.Table.{Table, tableOf}
+use Rattle.scenes.specs.Answer.{refusalOf}
+use Rattle.scenes.specs.Capacity.{remaining}
+use Rattle.scenes.specs.Reads.{listedOf, unlisted, sceneIds, listIds, getSceneMembership}
+use Rattle.scenes.proofs.Laws.{sound-fits}
+use Rattle.scenes.proofs.Guard.{when-refused, when-passed, passed-sound}
+use Rattle.scenes.proofs.ScenesState.get_scene_membership.Statement.{statement}
+use Rattle.scenes.proofs.ScenesState.get_scene_membership.Tie as tie
+
+-- a call that is not refused finds as many key words as there are entries
+in-bounds : (t : Table) (gate : ℕ) {n : ℕ} → n ≡ refusalOf t gate → n ≡ success → t .state .entries ≤ length (t .slots .keys)
+in-bounds t gate e z = let f = sound-fits t (passed-sound t gate (sym e ∙ z)) in omega arith
+
+-- the list is as long as the group counts
+size-of : (key : GroupKey) (t : Table) {range : KeyRange} {n : ℕ} → range ≡ groupKeys (key .fabric) (key .endpoint) (key .group)
+    → n ≡ countKeys (t .slots .keys) (t .state .entries) range → n ≡ length (sceneIds key t)
+size-of key t q e =
+    e ∙ ap (countKeys (t .slots .keys) (t .state .entries)) q ∙ sym (scenes-length (t .slots .keys) (groupKeys (key .fabric) (key .endpoint) (key .group)) (t .state .entries))
+
+list-long : (l : List ℕ) (left : ℕ) (buffer : List ℕ) (t : Table) → length buffer < length l → unlisted buffer t listTooLong ≡ listIds l left buffer t
+unfolding listIds
+list-long l left buffer t h = rw (lt-ltb (length buffer) (length l) h)
+
+list-fits : (l : List ℕ) (left : ℕ) (buffer : List ℕ) (t : Table) → length l ≤ length buffer
+    → listedOf (record { status = success; remaining = left; len = length l; state = t .state }) (laid l buffer) ≡ listIds l left buffer t
+unfolding listIds
+list-fits l left buffer t h = rw (le-ltb (length buffer) (length l) h)
+
+group-gate-requires : tie.Need-group-gate-requires
+group-gate-requires c κs = search needs
+
+refusal-requires : tie.Need-refusal-requires
+refusal-requires c κs = search needs
+
+refused-requires : tie.Need-refused-requires
+refused-requires c κs = search needs
+
+returns : tie.Need-returns
+unfolding getSceneMembership
+returns c =
+    let call = c .before .before in
+    let a = call .before .before .before .before .before .before .before .args in
+    let t = tableOf (a .self) (a .keys .now) (a .times .now) (a .fields .now) (a .records .now) in
+    let n = call .refusal .ensures ∙ ap (refusalOf t) (call .before .group-gate .ensures) in
+    (λ d. listedOf (c .refused .ensures d) (a .ids .now))
+    ∙ ap (unlisted (a .ids .now) t) n
+    ∙ when-refused (unlisted (a .ids .now) t) _ _ (λ z. c .before .if1 .taken (n ∙ z))
+
+of-group-requires : tie.Need-of-group-requires
+of-group-requires c κs = search needs
+
+count-requires : tie.Need-count-requires
+count-requires c κs =
+    let a = c .before .before .before .before .before .before .before .before .before .args in
+    in-bounds (tableOf (a .self) (a .keys .now) (a .times .now) (a .fields .now) (a .records .now)) _ (c .before .before .refusal .ensures) (c .before .if1 .left)
+
+refused-requires-2 : tie.Need-refused-requires-2
+refused-requires-2 c κs = search needs
+
+returns-2 : tie.Need-returns-2
+unfolding getSceneMembership
+returns-2 c =
+    let count = c .before .before in
+    let call = count .before .before .before in
+    let a = call .before .before .before .before .before .before .before .args in
+    let t = tableOf (a .self) (a .keys .now) (a .times .now) (a .fields .now) (a .records .now) in
+    let n = call .refusal .ensures ∙ ap (refusalOf t) (call .before .group-gate .ensures) in
+    let size = size-of (a .key) t (count .before .of-group .ensures) (count .count .ensures) in
+    (λ d. listedOf (c .refused2 .ensures d) (a .ids .now))
+    ∙ list-long (sceneIds (a .key) t) (remaining (a .self) (a .keys .now) (a .key .fabric)) (a .ids .now) t (omega (arith, c .before .if2 .taken))
+    ∙ when-passed (unlisted (a .ids .now) t) _ _ (sym n ∙ count .before .before .if1 .left)
+
+list-scenes-requires : tie.Need-list-scenes-requires
+list-scenes-requires c κs =
+    let a = c .before .before .before .before .before .before .before .before .before .before .before .before .args in
+    let t = tableOf (a .self) (a .keys .now) (a .times .now) (a .fields .now) (a .records .now) in
+    (in-bounds t _ (c .before .before .before .before .before .refusal .ensures) (c .before .before .before .before .if1 .left), omega (arith, c .before .before .count .ensures, c .before .if2 .left))
+
+remaining-capacity-for-fab-requires : tie.Need-remaining-capacity-for-fab-requires
+remaining-capacity-for-fab-requires c κs =
+    let a = c .before .before .before .before .before .before .before .before .before .before .before .before .before .before .before .args in
+    in-bounds (tableOf (a .self) (a .keys .now) (a .times .now) (a .fields .now) (a .records .now)) _ (c .before .before .before .before .before .before .before .before .refusal .ensures) (c .before .before .before .before .before .before .before .if1 .left)
+
+same-length : tie.Need-same-length
+same-length c = search needs
+
+returns-3 : tie.Need-returns-3
+unfolding getSceneMembership
+returns-3 c =
+    let list = c .before .before .before in
+    let count = list .before .before .before in
+    let call = count .before .before .before in
+    let a = call .before .before .before .before .before .before .before .args in
+    let t = tableOf (a .self) (a .keys .now) (a .times .now) (a .fields .now) (a .records .now) in
+    let range = count .before .of-group .ensures in
+    let n = call .refusal .ensures ∙ ap (refusalOf t) (call .before .group-gate .ensures) in
+    let size = size-of (a .key) t range (count .count .ensures) in
+    let ids = list .list-scenes .ensures ∙ ap (λ (r : KeyRange). laid (scenesInside (a .keys .now) (a .self .entries) r) (a .ids .now)) range in
+    (λ d. listedOf (record { status = success; remaining = c .remaining-capacity-for-fab .ensures d; len = size d; state = a .self }) (ids d))
+    ∙ list-fits (sceneIds (a .key) t) (remaining (a .self) (a .keys .now) (a .key .fabric)) (a .ids .now) t (omega (arith, list .before .before .if2 .left))
+    ∙ when-passed (unlisted (a .ids .now) t) _ _ (sym n ∙ count .before .before .if1 .left)
+
+pub get-scene-membership-spec : {M : Type 1} → statement M
+get-scene-membership-spec =
+    tie.close
+    (tie.spec
+    group-gate-requires
+    refusal-requires
+    refused-requires
+    returns
+    of-group-requires
+    count-requires
+    refused-requires-2
+    returns-2
+    list-scenes-requires
+    remaining-capacity-for-fab-requires
+    same-length
+    returns-3)

@@ -1,0 +1,278 @@
+// The commands that change the table, apart from copies.
+use crate::Applied;
+use crate::Outcome;
+use crate::ScenesState;
+use records::Scope;
+use requests::Membership;
+use words::Fault;
+use words::Found;
+use words::GroupKey;
+use words::KeyRange;
+use words::Limits;
+use words::SceneKey;
+use words::Slot;
+use words::Status;
+ghost use mathlib.Core.Path.{_≡_};
+ghost use mathlib.Core.Bool.{false};
+ghost use mathlib.Core.List.{[], _∷_, _++_};
+ghost use Prim.Native.Nat.{_+_, _<_};
+ghost use lib.ListN.{length, take};
+ghost use Rattle.words.specs.Constants.{endOfContainer, maxFields};
+ghost use Rattle.scenes.specs.Table.{tableOf, Room};
+ghost use Rattle.scenes.specs.Answer.{resultOf, refusalOf};
+ghost use Rattle.scenes.specs.Commands.{addScene, priorTime, storeCaptured, storeScene, removeScene, removeAllScenes, recallScene};
+
+// The time of the entry that was found, or 0.
+fn prior_time(found: Found, times: &[u32]) -> u32
+    ensures { λ r. ⌜ r ≡ priorTime found (now (times .entry)) ⌝ }
+{
+    let Found::At(at) = found else {
+        return 0;
+    };
+    if at < times.len() {
+        return times[at];
+    }
+    0
+}
+
+// Copies captured bytes to the front of a scratch buffer, and the end of a TLV array behind them. How many bytes they are then.
+fn end_capture(scratch: &mut [u8], captured: &[u8]) -> usize
+    requires { ⌜ length (now captured) < length (now scratch) ⌝ }
+    ensures { λ r. ⌜ (r ≡ length (now (captured .entry)) + 1) × (take r (now (scratch .exit)) ≡ now (captured .entry) ++ (endOfContainer ∷ [])) ⌝ }
+{
+    let len = captured.len();
+    let mut i = 0;
+    while i < len {
+        scratch[i] = captured[i];
+        i += 1;
+    }
+    scratch[len] = Slot::END_OF_CONTAINER;
+    len + 1
+}
+
+impl Outcome {
+    // A refusal has no save mark and hands the head back as it came.
+    pub(crate) fn refused(status: u8, state: ScenesState) -> Outcome
+        ensures { λ r. ⌜ r ≡ record { status = status; save = false; state = state } ⌝ }
+    {
+        Outcome {
+            status,
+            save: false,
+            state,
+        }
+    }
+}
+
+impl ScenesState {
+    // The number of the refusal, if any: 6 for a table that is not sound, else what the request alone decides.
+    pub(crate) fn refusal(
+        self,
+        keys: &[u64],
+        times: &[u32],
+        fields: &[u8],
+        records: &[u64],
+        gate: u8,
+    ) -> u8
+        ensures { λ r. ⌜ r ≡ refusalOf (tableOf self (now (keys .entry)) (now (times .entry)) (now (fields .entry)) (now (records .entry))) gate ⌝ }
+    {
+        if self.is_sound(keys, times, fields, records) {
+            return gate;
+        }
+        Fault::UNSOUND
+    }
+
+    // Adds a scene, or gives it a new time and new fields.
+    pub fn add_scene(
+        self,
+        keys: &mut [u64],
+        times: &mut [u32],
+        fields: &mut [u8],
+        records: &mut [u64],
+        key: SceneKey,
+        time: u32,
+        member: Membership,
+        pairs: &[u8],
+        ext: &[u8],
+    ) -> Outcome
+        ensures { λ r. ⌜ resultOf (r .status) (r .save) (tableOf (r .state) (now (keys .exit)) (now (times .exit)) (now (fields .exit)) (now (records .exit))) ≡ addScene key time member (now (pairs .entry)) (now (ext .entry)) (tableOf self (now (keys .entry)) (now (times .entry)) (now (fields .entry)) (now (records .entry))) ⌝ }
+    {
+        let gate = requests::add_gate(
+            key,
+            time,
+            member,
+            pairs,
+            Limits::MAX_EXT_FIELDS_LEN,
+            ext.len(),
+        );
+        let refusal = self.refusal(keys, times, fields, records, gate);
+        if refusal != Status::SUCCESS {
+            return Outcome::refused(refusal, self);
+        }
+        let n = self.entries;
+        let found = slots::find(keys, n, key.word());
+        let done = self.upsert_scene(keys, times, fields, records, found, key, time, ext);
+        let status = done.status;
+        let state = done.state;
+        Outcome {
+            status,
+            save: status == Status::SUCCESS,
+            state,
+        }
+    }
+
+    // Stores captured bytes as a scene, and remembers it as the fabric's current one.
+    pub fn store_scene(
+        self,
+        keys: &mut [u64],
+        times: &mut [u32],
+        fields: &mut [u8],
+        records: &mut [u64],
+        key: SceneKey,
+        member: Membership,
+        captured: &[u8],
+    ) -> Outcome
+        ensures { λ r. ⌜ resultOf (r .status) (r .save) (tableOf (r .state) (now (keys .exit)) (now (times .exit)) (now (fields .exit)) (now (records .exit))) ≡ storeScene key member (now (captured .entry)) (tableOf self (now (keys .entry)) (now (times .entry)) (now (fields .entry)) (now (records .entry))) ⌝ }
+    {
+        let gate = requests::store_gate(key, member, Limits::MAX_EXT_FIELDS_LEN, captured.len());
+        let refusal = self.refusal(keys, times, fields, records, gate);
+        if refusal != Status::SUCCESS {
+            return Outcome::refused(refusal, self);
+        }
+        self.store_captured(keys, times, fields, records, key, captured)
+    }
+
+    // Stores captured bytes over the scene, or as a new one with time 0.
+    fn store_captured(
+        self,
+        keys: &mut [u64],
+        times: &mut [u32],
+        fields: &mut [u8],
+        records: &mut [u64],
+        key: SceneKey,
+        captured: &[u8],
+    ) -> Outcome
+        requires { ⌜ Room (tableOf self (now keys) (now times) (now fields) (now records)) ⌝ }
+        requires { ⌜ length (now captured) < maxFields ⌝ }
+        ensures { λ r. ⌜ resultOf (r .status) (r .save) (tableOf (r .state) (now (keys .exit)) (now (times .exit)) (now (fields .exit)) (now (records .exit))) ≡ storeCaptured key (now (captured .entry)) (tableOf self (now (keys .entry)) (now (times .entry)) (now (fields .entry)) (now (records .entry))) ⌝ }
+    {
+        let mut scratch = [0u8; Limits::MAX_EXT_FIELDS_LEN];
+        let len = end_capture(&mut scratch, captured);
+        let n = self.entries;
+        let found = slots::find(keys, n, key.word());
+        let time = prior_time(found, times);
+        let done = self.upsert_scene(
+            keys,
+            times,
+            fields,
+            records,
+            found,
+            key,
+            time,
+            &scratch[..len],
+        );
+        let status = done.status;
+        let state = done.state;
+        if status != Status::SUCCESS {
+            return Outcome::refused(status, state);
+        }
+        Outcome {
+            status: Status::SUCCESS,
+            save: true,
+            state: state.remember_current(records, key),
+        }
+    }
+
+    // Removes a scene: the last entry takes its place.
+    pub fn remove_scene(
+        self,
+        keys: &mut [u64],
+        times: &mut [u32],
+        fields: &mut [u8],
+        records: &mut [u64],
+        key: SceneKey,
+        member: Membership,
+    ) -> Outcome
+        ensures { λ r. ⌜ resultOf (r .status) (r .save) (tableOf (r .state) (now (keys .exit)) (now (times .exit)) (now (fields .exit)) (now (records .exit))) ≡ removeScene key member (tableOf self (now (keys .entry)) (now (times .entry)) (now (fields .entry)) (now (records .entry))) ⌝ }
+    {
+        let gate = requests::lookup_gate(key, member);
+        let refusal = self.refusal(keys, times, fields, records, gate);
+        if refusal != Status::SUCCESS {
+            return Outcome::refused(refusal, self);
+        }
+        let n = self.entries;
+        let Found::At(at) = slots::find(keys, n, key.word()) else {
+            return Outcome::refused(Status::SC_NOT_FOUND, self);
+        };
+        let shorter = self.swap_remove(keys, times, fields, at);
+        Outcome {
+            status: Status::SUCCESS,
+            save: true,
+            state: shorter.invalidate_current(records, Scope::Scene(key)),
+        }
+    }
+
+    // Removes all scenes of a group on an endpoint.
+    pub fn remove_all_scenes(
+        self,
+        keys: &mut [u64],
+        times: &mut [u32],
+        fields: &mut [u8],
+        records: &mut [u64],
+        key: GroupKey,
+        member: Membership,
+    ) -> Outcome
+        ensures { λ r. ⌜ resultOf (r .status) (r .save) (tableOf (r .state) (now (keys .exit)) (now (times .exit)) (now (fields .exit)) (now (records .exit))) ≡ removeAllScenes key member (tableOf self (now (keys .entry)) (now (times .entry)) (now (fields .entry)) (now (records .entry))) ⌝ }
+    {
+        let gate = requests::group_gate(key, member);
+        let refusal = self.refusal(keys, times, fields, records, gate);
+        if refusal != Status::SUCCESS {
+            return Outcome::refused(refusal, self);
+        }
+        let before = self.entries;
+        let left = self.retain(keys, times, fields, KeyRange::of_group(key));
+        if left.entries == before {
+            return Outcome {
+                status: Status::SUCCESS,
+                save: false,
+                state: left,
+            };
+        }
+        Outcome {
+            status: Status::SUCCESS,
+            save: true,
+            state: left.invalidate_current(records, Scope::Group(key)),
+        }
+    }
+
+    // Ends a recall: a scene that the host has applied becomes the fabric's current one.
+    pub fn recall_scene(
+        self,
+        keys: &[u64],
+        times: &[u32],
+        fields: &[u8],
+        records: &mut [u64],
+        key: SceneKey,
+        member: Membership,
+        applied: Applied,
+    ) -> Outcome
+        ensures { λ r. ⌜ resultOf (r .status) (r .save) (tableOf (r .state) (now (keys .entry)) (now (times .entry)) (now (fields .entry)) (now (records .exit))) ≡ recallScene key member applied (tableOf self (now (keys .entry)) (now (times .entry)) (now (fields .entry)) (now (records .entry))) ⌝ }
+    {
+        let gate = requests::lookup_gate(key, member);
+        let refusal = self.refusal(keys, times, fields, records, gate);
+        if refusal != Status::SUCCESS {
+            return Outcome::refused(refusal, self);
+        }
+        let n = self.entries;
+        let Found::At(_) = slots::find(keys, n, key.word()) else {
+            return Outcome::refused(Status::SC_NOT_FOUND, self);
+        };
+        match applied {
+            Applied::Yes => Outcome {
+                status: Status::SUCCESS,
+                save: true,
+                state: self.remember_current(records, key),
+            },
+            Applied::Failed => Outcome::refused(Fault::APPLY_FAILED, self),
+        }
+    }
+}
