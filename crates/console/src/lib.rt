@@ -1,0 +1,243 @@
+// Runs a script from standard input and writes its answers to standard output: scenebench and scenetrace are a call of it each.
+use libc::STDIN_FILENO;
+use libc::STDOUT_FILENO;
+use script::Machine;
+use script::Ran;
+
+// A line has fewer bytes than this: 128 field bytes take 256 digits, and longer ones are to be refused by the table.
+const LINE: usize = 0x4_0000;
+
+const CHUNK: usize = 0x1_0000;
+
+// The output buffer, and how much is held before it is written out. The longest answer to a line, a dump of 1,024 entries with 128
+// field bytes each, fits in what is left.
+const OUT: usize = 0x8_0000;
+
+const HELD: usize = 0x1_0000;
+
+// What a part of the input leaves: the machine, how many bytes the line buffer holds, and whether the output still takes bytes.
+struct Fed {
+    machine: Machine,
+    held: usize,
+    open: bool,
+}
+
+// What a line leaves: the machine, the next position of the output, and whether the output still takes bytes.
+struct Stepped {
+    machine: Machine,
+    at: usize,
+    open: bool,
+}
+
+// Writes out what the buffer holds up to a position.
+fn flush(out: &[u8], at: usize) -> bool {
+    if at <= out.len() {
+        return io::write_all(STDOUT_FILENO, &out[..at]);
+    }
+    io::write_all(STDOUT_FILENO, out)
+}
+
+// Runs the line that the buffer holds. A line that fills it is too long.
+fn run_held(
+    machine: Machine,
+    keys: &mut [u64],
+    times: &mut [u32],
+    fields: &mut [u8],
+    records: &mut [u64],
+    ids: &mut [u8],
+    line: &mut [u8],
+    held: usize,
+    out: &mut [u8],
+    at: usize,
+) -> Ran {
+    if held < line.len() {
+        return script::run_line(
+            machine,
+            keys,
+            times,
+            fields,
+            records,
+            ids,
+            &mut line[..held],
+            out,
+            at,
+        );
+    }
+    script::too_long(machine, out, at)
+}
+
+// Runs the line that the buffer holds, and writes the output out if much of it is held.
+fn step(
+    machine: Machine,
+    keys: &mut [u64],
+    times: &mut [u32],
+    fields: &mut [u8],
+    records: &mut [u64],
+    ids: &mut [u8],
+    line: &mut [u8],
+    held: usize,
+    out: &mut [u8],
+    at: usize,
+) -> Stepped {
+    let ran = run_held(
+        machine,
+        keys,
+        times,
+        fields,
+        records,
+        ids,
+        line,
+        held,
+        out,
+        at,
+    );
+    let m = ran.machine;
+    let next = ran.at;
+    if next <= HELD {
+        return Stepped {
+            machine: m,
+            at: next,
+            open: true,
+        };
+    }
+    Stepped {
+        machine: m,
+        at: 0,
+        open: flush(out, next),
+    }
+}
+
+// Runs the lines that end in a chunk.
+fn feed(
+    machine: Machine,
+    keys: &mut [u64],
+    times: &mut [u32],
+    fields: &mut [u8],
+    records: &mut [u64],
+    ids: &mut [u8],
+    line: &mut [u8],
+    before: usize,
+    chunk: &[u8],
+    out: &mut [u8],
+) -> Fed {
+    let mut m = machine;
+    let mut held = before;
+    let mut from = 0;
+    let mut at = 0;
+    while from < chunk.len() {
+        let got = text::gather(chunk, from, line, held);
+        from = got.next;
+        held = got.held;
+        if got.ended {
+            let done = step(m, keys, times, fields, records, ids, line, held, out, at);
+            m = done.machine;
+            at = done.at;
+            held = 0;
+            if !done.open {
+                return Fed {
+                    machine: m,
+                    held,
+                    open: false,
+                };
+            }
+        }
+    }
+    Fed {
+        machine: m,
+        held,
+        open: flush(out, at),
+    }
+}
+
+// Reads standard input to its end, in chunks, and runs its lines. The last one may lack its end.
+fn run(
+    machine: Machine,
+    keys: &mut [u64],
+    times: &mut [u32],
+    fields: &mut [u8],
+    records: &mut [u64],
+    ids: &mut [u8],
+    line: &mut [u8],
+    chunk: &mut [u8],
+    out: &mut [u8],
+) {
+    let mut m = machine;
+    let mut held = 0;
+    // Nothing says that the input ends: the turns are counted down, from a number that no run uses up.
+    let mut turns = u64::MAX;
+    while 0 < turns {
+        let got = libc::read(STDIN_FILENO, chunk);
+        if got <= 0 {
+            break;
+        }
+        let n = io::count(got, chunk);
+        let fed = feed(
+            m,
+            keys,
+            times,
+            fields,
+            records,
+            ids,
+            line,
+            held,
+            &chunk[..n],
+            out,
+        );
+        m = fed.machine;
+        held = fed.held;
+        if !fed.open {
+            return;
+        }
+        turns -= 1;
+    }
+    if 0 < held {
+        let last = step(m, keys, times, fields, records, ids, line, held, out, 0);
+        flush(out, last.at);
+    }
+}
+
+// scenebench: adds, stores and views on a table of at most 256 scenes.
+pub fn bench() {
+    let mut keys = [0u64; 256];
+    let mut times = [0u32; 256];
+    let mut fields = [0u8; 33_024];
+    let mut records = [0u64; 256];
+    let mut ids = [0u8; 256];
+    let mut line = [0u8; LINE];
+    let mut chunk = [0u8; CHUNK];
+    let mut out = [0u8; OUT];
+    run(
+        Machine::new(false),
+        &mut keys,
+        &mut times,
+        &mut fields,
+        &mut records,
+        &mut ids,
+        &mut line,
+        &mut chunk,
+        &mut out,
+    );
+}
+
+// scenetrace: every call, on a table of at most 1,024 scenes.
+pub fn trace() {
+    let mut keys = [0u64; 1024];
+    let mut times = [0u32; 1024];
+    let mut fields = [0u8; 132_096];
+    let mut records = [0u64; 1024];
+    let mut ids = [0u8; 1024];
+    let mut line = [0u8; LINE];
+    let mut chunk = [0u8; CHUNK];
+    let mut out = [0u8; OUT];
+    run(
+        Machine::new(true),
+        &mut keys,
+        &mut times,
+        &mut fields,
+        &mut records,
+        &mut ids,
+        &mut line,
+        &mut chunk,
+        &mut out,
+    );
+}

@@ -1,0 +1,4 @@
+// Runs a script of adds, stores and views.
+fn main() {
+    console::bench();
+}

@@ -1,0 +1,4 @@
+// Runs a script of any calls.
+fn main() {
+    console::trace();
+}

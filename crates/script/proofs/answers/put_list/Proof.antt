@@ -1,0 +1,21 @@
+-- `script::answers::put_list` meets its contract. Assumes nothing.
+use mathlib.Core.Path.{ap, _∙_}
+use Rattle.text.specs.Writing.{writesBelow}
+use borrow.Author.Needs.{needs}
+use Rattle.script.proofs.answers.put_list.Statement.{statement}
+use Rattle.script.proofs.answers.put_list.Tie as tie
+
+put-number-requires : tie.Need-put-number-requires
+put-number-requires c κs = search needs
+
+put-ids-requires : tie.Need-put-ids-requires
+put-ids-requires c κs = search needs
+
+same-length : tie.Need-same-length
+same-length c = search needs
+
+returns : tie.Need-returns
+returns c = c .before .before .put-ids .ensures ∙ ap (writesBelow _ _) (c .before .before .before .before .before .before .put-number .ensures)
+
+pub put-list-spec : {M : Type 1} → statement M
+put-list-spec = tie.close (tie.spec put-number-requires put-ids-requires same-length returns)

@@ -1,0 +1,104 @@
+-- `script::reader::read_words` is safe and ends. Assumes nothing.
+use Prim.Native.Nat.{_-_, _≤_}
+use mathlib.Core.Path.{_≡_, refl, _∙_}
+use native.Mathlib.Omega.{arith}
+use lib.ListN.{length, length-set}
+use Rattle.script.proofs.reader.read_words.Statement.{statement}
+use Rattle.script.proofs.reader.read_words.Tie as tie
+
+abbrev Inv-loop : tie.InvT-loop
+Inv-loop line₀ start letter trace kinds values₀ starts₀ at₀ i₀ line values starts at i =
+    (length line ≡ length line₀)
+    × (at ≤ length line₀)
+    × (length values ≡ 10)
+    × (length starts ≡ 10)
+    × (i ≤ 10)
+
+abbrev μ-loop : tie.MeasureT-loop
+μ-loop line₀ start letter trace kinds values₀ starts₀ at₀ i₀ line values starts at i = 10 - i
+
+kinds-of-requires : tie.Need-kinds-of-requires Inv-loop μ-loop
+kinds-of-requires c κs = tt
+
+loop-holds : tie.Need-loop-holds Inv-loop μ-loop
+loop-holds c = (refl, c .before .before .pre, refl, refl, omega arith)
+
+array-copy-out-read-next : tie.Need-array-copy-out-read-next Inv-loop μ-loop
+array-copy-out-read-next c = omega arith
+
+read-next-requires : tie.Need-read-next-requires Inv-loop μ-loop
+read-next-requires c κs = omega arith
+
+enum-known-word : tie.Need-enum-known-word Inv-loop μ-loop
+enum-known-word c = c .match .keys1
+
+mul-values : tie.Need-mul-values Inv-loop μ-loop
+mul-values c = omega arith
+
+array-write-values : tie.Need-array-write-values Inv-loop μ-loop
+array-write-values c = omega arith
+
+mul-starts : tie.Need-mul-starts Inv-loop μ-loop
+mul-starts c = omega arith
+
+array-write-starts : tie.Need-array-write-starts Inv-loop μ-loop
+array-write-starts c = omega arith
+
+enum-known-word-2 : tie.Need-enum-known-word-2 Inv-loop μ-loop
+enum-known-word-2 c = c .match .keys2
+
+empty-requires : tie.Need-empty-requires Inv-loop μ-loop
+empty-requires c κs = tt
+
+same-length : tie.Need-same-length Inv-loop μ-loop
+same-length c = c .before .before .before .before .before .before .read-next .kept .0 ∙ c .before .before .before .before .before .before .before .before .before .before .loop .inv .0
+
+returns : tie.Need-returns Inv-loop μ-loop
+returns c = tt
+
+add-i : tie.Need-add-i Inv-loop μ-loop
+add-i c = omega arith
+
+loop-less : tie.Need-loop-less Inv-loop μ-loop
+loop-less c = omega arith
+
+loop-again : tie.Need-loop-again Inv-loop μ-loop
+loop-again c =
+    let at = c .before .before .before .before .before .before .before .before .before .loop .inv in (
+      c .before .before .before .before .before .read-next .kept .0 ∙ at .0,
+      omega arith,
+      simp length-set (at .2),
+      simp length-set (at .3),
+      omega arith,
+    )
+
+same-length-2 : tie.Need-same-length-2 Inv-loop μ-loop
+same-length-2 c = c .before .loop .inv .0
+
+returns-2 : tie.Need-returns-2 Inv-loop μ-loop
+returns-2 c = tt
+
+pub read-words-spec : {M : Type 1} → statement M
+read-words-spec =
+    tie.close
+    (tie.spec
+    Inv-loop
+    μ-loop
+    kinds-of-requires
+    loop-holds
+    array-copy-out-read-next
+    read-next-requires
+    enum-known-word
+    mul-values
+    array-write-values
+    mul-starts
+    array-write-starts
+    enum-known-word-2
+    empty-requires
+    same-length
+    returns
+    add-i
+    loop-less
+    loop-again
+    same-length-2
+    returns-2)

@@ -1,0 +1,101 @@
+-- `script::runner::Machine::obeyed` meets its contract. Assumes nothing.
+use mathlib.Core.Path.{refl}
+use Rattle.script.specs.declared.runner.Machine.{Machine}
+use Rattle.script.specs.Running.{sized}
+use Rattle.script.proofs.Running.{writes-within, table-within, ended-runs}
+use borrow.Author.Needs.{needs}
+use Rattle.script.proofs.runner.Machine.obeyed.Statement.{statement}
+use Rattle.script.proofs.runner.Machine.obeyed.Tie as tie
+
+element-copy-out-sized : tie.Need-element-copy-out-sized
+element-copy-out-sized c = search needs
+
+sized-requires : tie.Need-sized-requires
+sized-requires c κs = search needs
+
+same-length : tie.Need-same-length
+same-length c = search needs
+
+returns : tie.Need-returns
+returns c = ended-runs _ (writes-within _) _ _ _ (c .before .before .sized .kept .1 .0) _ _ _ refl refl (c .before .before .sized .ensures)
+
+dumped-requires : tie.Need-dumped-requires
+dumped-requires c κs = search needs
+
+same-length-2 : tie.Need-same-length-2
+same-length-2 c = search needs
+
+same-length-3 : tie.Need-same-length-3
+same-length-3 c = search needs
+
+same-length-4 : tie.Need-same-length-4
+same-length-4 c = search needs
+
+same-length-5 : tie.Need-same-length-5
+same-length-5 c = search needs
+
+same-length-6 : tie.Need-same-length-6
+same-length-6 c = search needs
+
+returns-2 : tie.Need-returns-2
+returns-2 c = ended-runs _ (table-within _) _ _ _ (c .before .before .dumped .kept .1 .1 .1 .1 .1 .0) _ _ _ refl refl (c .before .before .dumped .ensures)
+
+called-requires : tie.Need-called-requires
+called-requires c κs = search needs
+
+same-length-7 : tie.Need-same-length-7
+same-length-7 c = search needs
+
+same-length-8 : tie.Need-same-length-8
+same-length-8 c = search needs
+
+same-length-9 : tie.Need-same-length-9
+same-length-9 c = search needs
+
+same-length-10 : tie.Need-same-length-10
+same-length-10 c = search needs
+
+same-length-11 : tie.Need-same-length-11
+same-length-11 c = search needs
+
+same-length-12 : tie.Need-same-length-12
+same-length-12 c = search needs
+
+returns-3 : tie.Need-returns-3
+returns-3 c = search needs
+
+wrong-requires : tie.Need-wrong-requires
+wrong-requires c κs = search needs
+
+same-length-13 : tie.Need-same-length-13
+same-length-13 c = search needs
+
+returns-4 : tie.Need-returns-4
+returns-4 c = ended-runs _ (writes-within _) _ _ _ (c .before .before .wrong .kept .1 .0) _ _ _ refl refl (c .before .before .wrong .ensures)
+
+pub obeyed-spec : {M : Type 1} → statement M
+obeyed-spec =
+    tie.close
+    (tie.spec
+    element-copy-out-sized
+    sized-requires
+    same-length
+    returns
+    dumped-requires
+    same-length-2
+    same-length-3
+    same-length-4
+    same-length-5
+    same-length-6
+    returns-2
+    called-requires
+    same-length-7
+    same-length-8
+    same-length-9
+    same-length-10
+    same-length-11
+    same-length-12
+    returns-3
+    wrong-requires
+    same-length-13
+    returns-4)

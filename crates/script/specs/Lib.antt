@@ -1,0 +1,3 @@
+-- `Answers` has the lines of answers, and `Running` what a line leaves.
+pub mod Answers
+pub mod Running

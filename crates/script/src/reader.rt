@@ -1,0 +1,346 @@
+// A line of a script: a letter and the words that belong to it.
+use text::Reason;
+use text::Word;
+use text::digits;
+use text::hex;
+use text::next_word;
+use text::number;
+ghost use Prim.Native.Nat.{_≤_};
+ghost use lib.ListN.{length};
+
+// The kinds of words.
+enum Kind {
+    // No further word.
+    End,
+    // Numbers of one, two and four bytes.
+    Byte,
+    Short,
+    Long,
+    // 1 yes, 0 no, 2 failed.
+    Member,
+    // 0 or 1.
+    Flag,
+    // The size of a table.
+    Size,
+    Digits,
+    Hex,
+    // A transition time, or `-` or `null` for none.
+    Override,
+    // The length of a scene list buffer, which may be missing.
+    Length,
+}
+
+pub(crate) struct Bounds;
+
+impl Bounds {
+    // The largest table of scenebench, and of scenetrace.
+    pub const BENCH: u64 = 256;
+
+    pub const TRACE: u64 = 1024;
+
+    // The scene list buffer.
+    pub const LIST: u64 = 1024;
+
+    // What stands for no override: no time is so large.
+    pub const STORED: u64 = 0x1_0000_0000;
+}
+
+// What is to be done with a line: nothing, what it says, or to say why it is not understood.
+pub(crate) enum Verdict {
+    Nothing,
+    Call,
+    Wrong(Reason),
+}
+
+// What a line says: its letter and, for each word, its number or its count of bytes, and where it starts.
+pub(crate) struct Line {
+    pub verdict: Verdict,
+    pub letter: u8,
+    pub values: [u64; 10],
+    pub starts: [usize; 10],
+}
+
+impl Line {
+    fn empty(verdict: Verdict) -> Line {
+        Line {
+            verdict,
+            letter: 0,
+            values: [0; 10],
+            starts: [0; 10],
+        }
+    }
+}
+
+// The kinds of the words that a letter takes.
+fn kinds_of(letter: u8) -> [Kind; 10] {
+    let end = Kind::End;
+    match letter {
+        b'N' => [Kind::Size, end, end, end, end, end, end, end, end, end],
+        b'A' => [
+            Kind::Byte,
+            Kind::Short,
+            Kind::Short,
+            Kind::Byte,
+            Kind::Long,
+            Kind::Member,
+            Kind::Digits,
+            Kind::Hex,
+            end,
+            end,
+        ],
+        b'S' => [
+            Kind::Byte,
+            Kind::Short,
+            Kind::Short,
+            Kind::Byte,
+            Kind::Member,
+            Kind::Hex,
+            end,
+            end,
+            end,
+            end,
+        ],
+        b'V' | b'R' => [
+            Kind::Byte,
+            Kind::Short,
+            Kind::Short,
+            Kind::Byte,
+            Kind::Member,
+            end,
+            end,
+            end,
+            end,
+            end,
+        ],
+        b'X' => [
+            Kind::Byte,
+            Kind::Short,
+            Kind::Short,
+            Kind::Member,
+            end,
+            end,
+            end,
+            end,
+            end,
+            end,
+        ],
+        b'C' => [
+            Kind::Byte,
+            Kind::Short,
+            Kind::Byte,
+            Kind::Short,
+            Kind::Byte,
+            Kind::Short,
+            Kind::Byte,
+            Kind::Member,
+            Kind::Member,
+            end,
+        ],
+        b'L' => [
+            Kind::Byte,
+            Kind::Short,
+            Kind::Short,
+            Kind::Byte,
+            Kind::Member,
+            Kind::Override,
+            Kind::Flag,
+            end,
+            end,
+            end,
+        ],
+        b'M' => [
+            Kind::Byte,
+            Kind::Short,
+            Kind::Short,
+            Kind::Member,
+            Kind::Length,
+            end,
+            end,
+            end,
+            end,
+            end,
+        ],
+        b'I' => [
+            Kind::Byte,
+            Kind::Short,
+            Kind::Flag,
+            end,
+            end,
+            end,
+            end,
+            end,
+            end,
+            end,
+        ],
+        b'T' => [Kind::Short, end, end, end, end, end, end, end, end, end],
+        b'F' => [Kind::Byte, end, end, end, end, end, end, end, end, end],
+        b'K' => [Kind::Long, end, end, end, end, end, end, end, end, end],
+        b'e' => [
+            Kind::Byte,
+            Kind::Short,
+            Kind::Short,
+            Kind::Byte,
+            Kind::Long,
+            Kind::Hex,
+            end,
+            end,
+            end,
+            end,
+        ],
+        b'r' => [
+            Kind::Byte,
+            Kind::Short,
+            Kind::Short,
+            Kind::Byte,
+            Kind::Flag,
+            end,
+            end,
+            end,
+            end,
+            end,
+        ],
+        _ => [end, end, end, end, end, end, end, end, end, end],
+    }
+}
+
+// Whether a letter is a command: of both programs, or of scenetrace alone.
+fn is_known(letter: u8, trace: bool) -> bool {
+    match letter {
+        b'N' | b'A' | b'S' | b'V' => true,
+        b'R'
+        | b'X'
+        | b'C'
+        | b'L'
+        | b'M'
+        | b'I'
+        | b'T'
+        | b'F'
+        | b'Z'
+        | b'U'
+        | b'W'
+        | b'E'
+        | b'D'
+        | b'K'
+        | b'e'
+        | b'r' => trace,
+        _ => false,
+    }
+}
+
+// The largest table of a program.
+fn most_scenes(trace: bool) -> u64 {
+    if trace {
+        return Bounds::TRACE;
+    }
+    Bounds::BENCH
+}
+
+// A transition time, or none.
+fn transition(word: &[u8]) -> Word {
+    if check::same(word, b"-") {
+        return Word::Value(Bounds::STORED);
+    }
+    if check::same(word, b"null") {
+        return Word::Value(Bounds::STORED);
+    }
+    number(word, 0xFFFF_FFFF)
+}
+
+// Reads a word of a kind, and turns its bytes into those that it spells.
+fn read_word(word: &mut [u8], kind: Kind, trace: bool) -> Word {
+    match kind {
+        Kind::End => {
+            if word.len() == 0 {
+                return Word::Value(0);
+            }
+            Word::Wrong(Reason::TooMany)
+        }
+        Kind::Byte => number(word, 0xFF),
+        Kind::Short => number(word, 0xFFFF),
+        Kind::Long => number(word, 0xFFFF_FFFF),
+        Kind::Member => number(word, 2),
+        Kind::Flag => number(word, 1),
+        Kind::Size => number(word, most_scenes(trace)),
+        Kind::Digits => digits(word),
+        Kind::Hex => hex(word),
+        Kind::Override => transition(word),
+        Kind::Length => {
+            if word.len() == 0 {
+                return Word::Value(Bounds::LIST);
+            }
+            number(word, Bounds::LIST)
+        }
+    }
+}
+
+// A word that was read, and its positions.
+struct Reading {
+    word: Word,
+    from: usize,
+    to: usize,
+}
+
+// Reads the next word from a position on.
+fn read_next(line: &mut [u8], at: usize, kind: Kind, trace: bool) -> Reading
+    requires { ⌜ at ≤ length (now line) ⌝ }
+    ensures { λ r. ⌜ r .to ≤ length (now (line .entry)) ⌝ }
+{
+    let span = next_word(line, at);
+    let from = span.from;
+    let to = span.to;
+    let word = read_word(&mut line[from..to], kind, trace);
+    Reading { word, from, to }
+}
+
+// Reads the words behind a letter.
+fn read_words(line: &mut [u8], start: usize, letter: u8, trace: bool) -> Line
+    requires { ⌜ start ≤ length (now line) ⌝ }
+{
+    let kinds = kinds_of(letter);
+    let mut values = [0u64; 10];
+    let mut starts = [0usize; 10];
+    let mut at = start;
+    let mut i = 0;
+    while i < 10 {
+        let got = read_next(line, at, kinds[i], trace);
+        let word = got.word;
+        match word {
+            Word::Value(value) => {
+                values[i] = value;
+                starts[i] = got.from;
+            }
+            Word::Wrong(reason) => {
+                return Line::empty(Verdict::Wrong(reason));
+            }
+        }
+        at = got.to;
+        i += 1;
+    }
+    Line {
+        verdict: Verdict::Call,
+        letter,
+        values,
+        starts,
+    }
+}
+
+// Reads a line. Empty lines and lines that start with `#` say nothing.
+pub(crate) fn read_line(line: &mut [u8], trace: bool) -> Line {
+    let span = next_word(line, 0);
+    let from = span.from;
+    let to = span.to;
+    if line.len() <= from {
+        return Line::empty(Verdict::Nothing);
+    }
+    let letter = line[from];
+    if letter == b'#' {
+        return Line::empty(Verdict::Nothing);
+    }
+    if from + 1 != to {
+        return Line::empty(Verdict::Wrong(Reason::Unknown));
+    }
+    if is_known(letter, trace) {
+        return read_words(line, to, letter, trace);
+    }
+    Line::empty(Verdict::Wrong(Reason::Unknown))
+}

@@ -1,0 +1,190 @@
+// A line is read, run on the table and answered.
+use crate::answers::put_answer;
+use crate::answers::put_size;
+use crate::answers::put_table;
+use crate::calls::call;
+use crate::reader::Line;
+use crate::reader::Verdict;
+use crate::reader::read_line;
+use scenes::ScenesState;
+use text::Reason;
+use text::put_error;
+ghost use mathlib.Core.Path.{_≡_};
+ghost use Rattle.scenes.specs.Table.{tableOf};
+ghost use Rattle.text.specs.Writing.{writes};
+ghost use Rattle.text.specs.Errors.{errorLine};
+ghost use Rattle.script.specs.Answers.{sizeLine, tableLines};
+ghost use Rattle.script.specs.Running.{newMachine, counted, sized, Ended, Runs};
+
+// What a run keeps from line to line: the head of the table, whether there is one, whether every call may be made or only those of
+// scenebench, and how many lines were read.
+pub struct Machine {
+    pub state: ScenesState,
+    pub present: bool,
+    pub trace: bool,
+    pub lines: u64,
+}
+
+// What a line leaves: the machine, and the next position of the output.
+pub struct Ran {
+    pub machine: Machine,
+    pub at: usize,
+}
+
+impl Machine {
+    // Before the first line of scenebench, or with `trace` of scenetrace.
+    pub fn new(trace: bool) -> Machine
+        ensures { λ r. ⌜ r ≡ newMachine trace ⌝ }
+    {
+        Machine {
+            state: ScenesState::new(0),
+            present: false,
+            trace,
+            lines: 0,
+        }
+    }
+
+    // One more line was read.
+    fn counted(mut self) -> Machine
+        ensures { λ r. ⌜ r ≡ counted self ⌝ }
+    {
+        self.lines = std::num::wrapping_add_u64(self.lines, 1);
+        self
+    }
+
+    // The line is not understood.
+    fn wrong(self, out: &mut [u8], at: usize, reason: Reason) -> Ran
+        ensures { λ r. ⌜ Ended self (writes (errorLine (self .lines) reason)) (now (out .entry)) at (now (out .exit)) r ⌝ }
+    {
+        Ran {
+            machine: self,
+            at: put_error(out, at, self.lines, reason),
+        }
+    }
+
+    // N: a new table.
+    fn sized(mut self, out: &mut [u8], at: usize, size: u64) -> Ran
+        ensures { λ r. ⌜ Ended (sized size self) (writes (sizeLine (self .trace) size)) (now (out .entry)) at (now (out .exit)) r ⌝ }
+    {
+        self.state = ScenesState::new(size as usize);
+        self.present = true;
+        Ran {
+            machine: self,
+            at: put_size(out, at, self.trace, size),
+        }
+    }
+
+    // D: the table as it stands.
+    fn dumped(
+        self,
+        keys: &[u64],
+        times: &[u32],
+        fields: &[u8],
+        records: &[u64],
+        out: &mut [u8],
+        at: usize,
+    ) -> Ran
+        ensures { λ r. ⌜ Ended self (tableLines (tableOf (self .state) (now (keys .entry)) (now (times .entry)) (now (fields .entry)) (now (records .entry)))) (now (out .entry)) at (now (out .exit)) r ⌝ }
+    {
+        let state = self.state;
+        Ran {
+            machine: self,
+            at: put_table(out, at, state, keys, times, fields, records),
+        }
+    }
+
+    // A call of the table.
+    fn called(
+        mut self,
+        keys: &mut [u64],
+        times: &mut [u32],
+        fields: &mut [u8],
+        records: &mut [u64],
+        ids: &mut [u8],
+        line: &[u8],
+        out: &mut [u8],
+        at: usize,
+        read: Line,
+    ) -> Ran
+        ensures { λ r. ⌜ Runs self (now (out .entry)) at r ⌝ }
+    {
+        let before = self.state;
+        let answer = call(before, keys, times, fields, records, ids, line, read);
+        let after = answer.state;
+        self.state = after;
+        Ran {
+            machine: self,
+            at: put_answer(
+                out,
+                at,
+                self.trace,
+                read.letter,
+                answer,
+                keys,
+                times,
+                fields,
+                records,
+                ids,
+            ),
+        }
+    }
+
+    // What an understood line asks for.
+    fn obeyed(
+        self,
+        keys: &mut [u64],
+        times: &mut [u32],
+        fields: &mut [u8],
+        records: &mut [u64],
+        ids: &mut [u8],
+        line: &[u8],
+        out: &mut [u8],
+        at: usize,
+        read: Line,
+    ) -> Ran
+        ensures { λ r. ⌜ Runs self (now (out .entry)) at r ⌝ }
+    {
+        if read.letter == b'N' {
+            return self.sized(out, at, read.values[0]);
+        }
+        if self.present {
+            if read.letter == b'D' {
+                return self.dumped(keys, times, fields, records, out, at);
+            }
+            return self.called(keys, times, fields, records, ids, line, out, at, read);
+        }
+        self.wrong(out, at, Reason::NoTable)
+    }
+}
+
+// Runs one line, which is all that `line` holds, and answers it from a position of the output on. A line that is not understood is
+// answered by `error`, its number and a reason, and changes nothing. The words of the line are changed in place.
+pub fn run_line(
+    machine: Machine,
+    keys: &mut [u64],
+    times: &mut [u32],
+    fields: &mut [u8],
+    records: &mut [u64],
+    ids: &mut [u8],
+    line: &mut [u8],
+    out: &mut [u8],
+    at: usize,
+) -> Ran
+    ensures { λ r. ⌜ Runs (counted machine) (now (out .entry)) at r ⌝ }
+{
+    let m = machine.counted();
+    let read = read_line(line, m.trace);
+    let verdict = read.verdict;
+    match verdict {
+        Verdict::Nothing => Ran { machine: m, at },
+        Verdict::Wrong(reason) => m.wrong(out, at, reason),
+        Verdict::Call => m.obeyed(keys, times, fields, records, ids, line, out, at, read),
+    }
+}
+
+// Answers a line that is longer than the buffer for lines.
+pub fn too_long(machine: Machine, out: &mut [u8], at: usize) -> Ran
+    ensures { λ r. ⌜ Ended (counted machine) (writes (errorLine (counted machine .lines) Reason.TooLong)) (now (out .entry)) at (now (out .exit)) r ⌝ }
+{
+    machine.counted().wrong(out, at, Reason::TooLong)
+}
