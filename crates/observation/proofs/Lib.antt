@@ -7,8 +7,8 @@
 -- requests that are let through. `Respond` and `RespondCopy` say that commands keep both, `Probes` what tells two views apart. `Reach`, `Forward` and
 -- `Backward` bring this to tables, and `Theorem` has the theorems.
 -- What follows: `Readings` has counterexamples to nearby readings, `Removal` what a fabric's removal leaves, `Numbers` the numbers that
--- each call can answer, `FieldBytes` whose fields an answered position has, `Buffers` what a
--- scene list buffer counts for.
+-- each call can answer, `Unsound` what a table that is not sound is answered, `FieldBytes` whose fields an answered position has,
+-- `Buffers` what a scene list buffer counts for.
 pub mod Counts
 pub mod Firsts
 pub mod Positions
@@ -42,5 +42,6 @@ pub mod Theorem
 pub mod Readings
 pub mod Removal
 pub mod Numbers
+pub mod Unsound
 pub mod FieldBytes
 pub mod Buffers

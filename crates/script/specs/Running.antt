@@ -1,13 +1,25 @@
--- What a line leaves: the machine, and the output.
-use Prim.Native.Nat.{ℕ, _+_, _%_, _^_, _≤_}
+-- What a line leaves: the machine, the lent memory, the list buffer and the output.
+use Prim.Native.Nat.{ℕ, _+_, _%_, _^_}
 use mathlib.Core.Path.{_≡_}
-use mathlib.Core.Bool.{Bool, true, false}
+use mathlib.Core.Bool.{Bool, true, false, cond}
 use mathlib.Core.List.{List}
-use lib.ListN.{length}
-use Rattle.scenes.specs.Table.{newState}
+use lib.Dec.{eqb}
+use Rattle.slots.specs.Slots.{Slots, slotsOf}
+use Rattle.scenes.specs.declared.ScenesState.{ScenesState}
+use Rattle.scenes.specs.Table.{Table, newState}
+use Rattle.script.specs.declared.reader.Line.{Line}
+use Rattle.script.specs.declared.reader.Verdict.{Verdict}
+use Rattle.script.specs.declared.reader.Verdict.the-variants as verdict
 use Rattle.script.specs.declared.runner.Machine.{Machine}
 use Rattle.script.specs.declared.runner.Ran.{Ran}
-use Rattle.text.specs.Writing.{Sheet, sheet}
+use Rattle.text.specs.declared.input.Reason.{Reason}
+use Rattle.text.specs.declared.input.Reason.the-variants.{NoTable}
+use Rattle.text.specs.Writing.{Sheet, sheet, writes}
+use Rattle.text.specs.Errors.{errorLine}
+use Rattle.script.specs.Answers.{sizeLine, answerLine, tableLines}
+use Rattle.script.specs.Calls.{Called, answerOf, valueAt, bytesAt, call}
+
+-- ---- the machine
 
 -- before the first line: no table
 abbrev pub newMachine : Bool → Machine
@@ -21,13 +33,66 @@ counted m = record { state = m .state; present = m .present; trace = m .trace; l
 abbrev pub sized : ℕ → Machine → Machine
 sized size m = record { state = newState size; present = true; trace = m .trace; lines = m .lines }
 
+abbrev pub withState : ScenesState → Machine → Machine
+withState state m = record { state = state; present = m .present; trace = m .trace; lines = m .lines }
+
 -- a line that leaves a machine that is known, and an output that is known
 pub record Ended (m : Machine) (written : Sheet → Sheet) (out : List ℕ) (at : ℕ) (after : List ℕ) (r : Ran) : Type 0 where
   pub machine : r .machine ≡ m
   pub output : sheet after (r .at) ≡ written (sheet out at)
 
--- what holds of any line: the number of lines and the kind of run stay, and the next position is within the output
-pub record Runs (m : Machine) (out : List ℕ) (at : ℕ) (r : Ran) : Type 0 where
-  pub lines : r .machine .lines ≡ m .lines
-  pub trace : r .machine .trace ≡ m .trace
-  pub within : at ≤ length out → r .at ≤ length out
+-- ---- all that a line is run on
+
+pub record Session : Type 0 where
+  pub machine : Machine
+  pub slots : Slots
+  pub records : List ℕ
+  pub ids : List ℕ
+  pub output : Sheet
+
+-- the machine, keys, times, fields, records, the list buffer and the output
+abbrev pub session : Machine → List ℕ → List ℕ → List ℕ → List ℕ → List ℕ → Sheet → Session
+session m k t f r ids output = record { machine = m; slots = slotsOf k t f; records = r; ids = ids; output = output }
+
+abbrev pub tableIn : Session → Table
+tableIn s = record { state = s .machine .state; slots = s .slots; records = s .records }
+
+-- another machine and more output; the lent memory and the list buffer stay as they were
+abbrev pub answered : Machine → (Sheet → Sheet) → Session → Session
+answered m written s = record { machine = m; slots = s .slots; records = s .records; ids = s .ids; output = written (s .output) }
+
+-- the line is not understood
+abbrev pub wrong : Reason → Session → Session
+wrong reason s = answered (s .machine) (writes (errorLine (s .machine .lines) reason)) s
+
+-- the table and the list buffer that a call leaves, and its answer
+abbrev pub answeredCall : ℕ → Called → Session → Session
+answeredCall letter c s = record {
+  machine = withState (c .done .table .state) (s .machine);
+  slots = c .done .table .slots;
+  records = c .done .table .records;
+  ids = c .ids;
+  output = answerLine (s .machine .trace) letter (answerOf (c .done)) (c .ids) (c .done .table) (s .output);
+}
+
+-- ---- a line, by its letter, the numbers of its words and the bytes that they spell
+
+abbrev pub called : ℕ → List ℕ → (ℕ → List ℕ) → Session → Session
+called letter values bytes s = answeredCall letter (call letter values bytes (s .ids) (tableIn s)) s
+
+-- N makes a table; without one all else is an error; D shows it, and any other letter calls it
+unfoldable pub obeyed : ℕ → List ℕ → (ℕ → List ℕ) → Session → Session
+obeyed letter values bytes s =
+    cond (eqb letter 78) (answered (sized (valueAt values 0) (s .machine)) (writes (sizeLine (s .machine .trace) (valueAt values 0))) s)
+    (cond (s .machine .present)
+    (cond (eqb letter 68) (answered (s .machine) (tableLines (tableIn s)) s) (called letter values bytes s))
+    (wrong NoTable s))
+
+-- by the verdict on a line, given what was read and how that left the line
+abbrev pub verdictRuns : Verdict → Line → List ℕ → Session → Session
+verdictRuns verdict.Nothing read line s = s
+verdictRuns (verdict.Wrong reason) read line s = wrong reason s
+verdictRuns verdict.Call read line s = obeyed (read .letter) (read .values) (bytesAt read line) s
+
+abbrev pub runs : Line → List ℕ → Session → Session
+runs read line s = verdictRuns (read .verdict) read line s

@@ -1,6 +1,7 @@
 // The calls of the table, one for each letter: inputs from the words of a line, one call, what it answers.
 use crate::reader::Bounds;
 use crate::reader::Line;
+use crate::reader::one_of;
 use requests::CopyRequest;
 use requests::GroupScene;
 use requests::Membership;
@@ -17,6 +18,12 @@ use words::Limits;
 use words::SceneKey;
 use words::Slot;
 use words::Status;
+ghost use Prim.Native.Nat.{ℕ};
+ghost use mathlib.Core.Path.{_≡_};
+ghost use mathlib.Core.Bool.{false};
+ghost use mathlib.Core.List.{List};
+ghost use Rattle.scenes.specs.Table.{tableOf};
+ghost use Rattle.script.specs.Calls.{doneOf, calledOf, byte, short, long, bytesAt, membership, applied, transition, sceneKey, groupKey, copyRequest, sceneTail, infoTail, add, store, view, remove, removeAll, copy, recall, list, listIn, info, setVersion, entryFits, pushEntry, recordWord, recordFits, pushRecord, command, query, event, hostWrite, call};
 
 // The row of an info read.
 pub(crate) struct Row {
@@ -46,7 +53,9 @@ pub(crate) struct Answer {
 }
 
 impl Answer {
-    fn plain(o: Outcome) -> Answer {
+    fn plain(o: Outcome) -> Answer
+        ensures { λ r. ⌜ r ≡ record { status = o .status; save = o .save; state = o .state; tail = Tail.Nothing } ⌝ }
+    {
         let state = o.state;
         Answer {
             status: o.status,
@@ -57,19 +66,27 @@ impl Answer {
     }
 }
 
-fn byte(value: u64) -> u8 {
+fn byte(value: u64) -> u8
+    ensures { λ r. ⌜ r ≡ byte value ⌝ }
+{
     (value % 0x100) as u8
 }
 
-fn short(value: u64) -> u16 {
+fn short(value: u64) -> u16
+    ensures { λ r. ⌜ r ≡ short value ⌝ }
+{
     (value % 0x1_0000) as u16
 }
 
-fn long(value: u64) -> u32 {
+fn long(value: u64) -> u32
+    ensures { λ r. ⌜ r ≡ long value ⌝ }
+{
     (value % 0x1_0000_0000) as u32
 }
 
-fn membership(value: u64) -> Membership {
+fn membership(value: u64) -> Membership
+    ensures { λ r. ⌜ r ≡ membership value ⌝ }
+{
     match value {
         0 => Membership::No,
         1 => Membership::Yes,
@@ -77,14 +94,18 @@ fn membership(value: u64) -> Membership {
     }
 }
 
-fn applied(value: u64) -> Applied {
+fn applied(value: u64) -> Applied
+    ensures { λ r. ⌜ r ≡ applied value ⌝ }
+{
     if value == 0 {
         return Applied::Failed;
     }
     Applied::Yes
 }
 
-fn transition(value: u64) -> Transition {
+fn transition(value: u64) -> Transition
+    ensures { λ r. ⌜ r ≡ transition value ⌝ }
+{
     if value == Bounds::STORED {
         return Transition::Stored;
     }
@@ -92,7 +113,9 @@ fn transition(value: u64) -> Transition {
 }
 
 // The scene that the first four words name.
-fn scene_key(read: Line) -> SceneKey {
+fn scene_key(read: Line) -> SceneKey
+    ensures { λ r. ⌜ r ≡ sceneKey (read .values) ⌝ }
+{
     SceneKey {
         fabric: byte(read.values[0]),
         endpoint: short(read.values[1]),
@@ -102,7 +125,9 @@ fn scene_key(read: Line) -> SceneKey {
 }
 
 // The group that the first three words name.
-fn group_key(read: Line) -> GroupKey {
+fn group_key(read: Line) -> GroupKey
+    ensures { λ r. ⌜ r ≡ groupKey (read .values) ⌝ }
+{
     GroupKey {
         fabric: byte(read.values[0]),
         endpoint: short(read.values[1]),
@@ -110,7 +135,9 @@ fn group_key(read: Line) -> GroupKey {
     }
 }
 
-fn copy_request(read: Line) -> CopyRequest {
+fn copy_request(read: Line) -> CopyRequest
+    ensures { λ r. ⌜ r ≡ copyRequest (read .values) ⌝ }
+{
     let from = GroupScene {
         group: short(read.values[3]),
         scene: byte(read.values[4]),
@@ -129,14 +156,18 @@ fn copy_request(read: Line) -> CopyRequest {
 }
 
 // The time and position of a scene that was found.
-fn scene_tail(found: SceneRead) -> Tail {
+fn scene_tail(found: SceneRead) -> Tail
+    ensures { λ r. ⌜ r ≡ sceneTail found ⌝ }
+{
     if found.status == Status::SUCCESS {
         return Tail::Scene(found.time, found.at);
     }
     Tail::Nothing
 }
 
-fn info_tail(info: InfoRead) -> Tail {
+fn info_tail(info: InfoRead) -> Tail
+    ensures { λ r. ⌜ r ≡ infoTail info ⌝ }
+{
     if info.status == Status::SUCCESS {
         if info.present {
             return Tail::Info(Row {
@@ -162,7 +193,9 @@ fn add(
     records: &mut [u64],
     line: &[u8],
     read: Line,
-) -> Answer {
+) -> Answer
+    ensures { λ r. ⌜ doneOf r (tableOf (r .state) (now (keys .exit)) (now (times .exit)) (now (fields .exit)) (now (records .exit))) ≡ add (read .values) (bytesAt read (now (line .entry)) 6) (bytesAt read (now (line .entry)) 7) (tableOf state (now (keys .entry)) (now (times .entry)) (now (fields .entry)) (now (records .entry))) ⌝ }
+{
     let pairs = part(line, read.starts[6], read.values[6] as usize);
     let ext = part(line, read.starts[7], read.values[7] as usize);
     let key = scene_key(read);
@@ -180,7 +213,9 @@ fn store(
     records: &mut [u64],
     line: &[u8],
     read: Line,
-) -> Answer {
+) -> Answer
+    ensures { λ r. ⌜ doneOf r (tableOf (r .state) (now (keys .exit)) (now (times .exit)) (now (fields .exit)) (now (records .exit))) ≡ store (read .values) (bytesAt read (now (line .entry)) 5) (tableOf state (now (keys .entry)) (now (times .entry)) (now (fields .entry)) (now (records .entry))) ⌝ }
+{
     let captured = part(line, read.starts[5], read.values[5] as usize);
     let key = scene_key(read);
     let member = membership(read.values[4]);
@@ -195,7 +230,9 @@ fn view(
     fields: &[u8],
     records: &[u64],
     read: Line,
-) -> Answer {
+) -> Answer
+    ensures { λ r. ⌜ doneOf r (tableOf (r .state) (now (keys .entry)) (now (times .entry)) (now (fields .entry)) (now (records .entry))) ≡ view (read .values) (tableOf state (now (keys .entry)) (now (times .entry)) (now (fields .entry)) (now (records .entry))) ⌝ }
+{
     let key = scene_key(read);
     let member = membership(read.values[4]);
     let found = state.view_scene(keys, times, fields, records, key, member);
@@ -216,7 +253,9 @@ fn remove(
     fields: &mut [u8],
     records: &mut [u64],
     read: Line,
-) -> Answer {
+) -> Answer
+    ensures { λ r. ⌜ doneOf r (tableOf (r .state) (now (keys .exit)) (now (times .exit)) (now (fields .exit)) (now (records .exit))) ≡ remove (read .values) (tableOf state (now (keys .entry)) (now (times .entry)) (now (fields .entry)) (now (records .entry))) ⌝ }
+{
     let key = scene_key(read);
     let member = membership(read.values[4]);
     Answer::plain(state.remove_scene(keys, times, fields, records, key, member))
@@ -230,7 +269,9 @@ fn remove_all(
     fields: &mut [u8],
     records: &mut [u64],
     read: Line,
-) -> Answer {
+) -> Answer
+    ensures { λ r. ⌜ doneOf r (tableOf (r .state) (now (keys .exit)) (now (times .exit)) (now (fields .exit)) (now (records .exit))) ≡ removeAll (read .values) (tableOf state (now (keys .entry)) (now (times .entry)) (now (fields .entry)) (now (records .entry))) ⌝ }
+{
     let key = group_key(read);
     let member = membership(read.values[3]);
     Answer::plain(state.remove_all_scenes(keys, times, fields, records, key, member))
@@ -244,7 +285,9 @@ fn copy(
     fields: &mut [u8],
     records: &mut [u64],
     read: Line,
-) -> Answer {
+) -> Answer
+    ensures { λ r. ⌜ doneOf r (tableOf (r .state) (now (keys .exit)) (now (times .exit)) (now (fields .exit)) (now (records .exit))) ≡ copy (read .values) (tableOf state (now (keys .entry)) (now (times .entry)) (now (fields .entry)) (now (records .entry))) ⌝ }
+{
     let c = copy_request(read);
     let source = membership(read.values[7]);
     let target = membership(read.values[8]);
@@ -259,7 +302,9 @@ fn recall(
     fields: &[u8],
     records: &mut [u64],
     read: Line,
-) -> Answer {
+) -> Answer
+    ensures { λ r. ⌜ doneOf r (tableOf (r .state) (now (keys .entry)) (now (times .entry)) (now (fields .entry)) (now (records .exit))) ≡ recall (read .values) (tableOf state (now (keys .entry)) (now (times .entry)) (now (fields .entry)) (now (records .entry))) ⌝ }
+{
     let key = scene_key(read);
     let member = membership(read.values[4]);
     let time = transition(read.values[5]);
@@ -284,7 +329,9 @@ fn list(
     records: &[u64],
     ids: &mut [u8],
     read: Line,
-) -> Answer {
+) -> Answer
+    ensures { λ r. ⌜ calledOf (doneOf r (tableOf (r .state) (now (keys .entry)) (now (times .entry)) (now (fields .entry)) (now (records .entry)))) (now (ids .exit)) ≡ list (read .values) (now (ids .entry)) (tableOf state (now (keys .entry)) (now (times .entry)) (now (fields .entry)) (now (records .entry))) ⌝ }
+{
     let key = group_key(read);
     let member = membership(read.values[3]);
     let listed = state.get_scene_membership(keys, times, fields, records, ids, key, member);
@@ -314,7 +361,9 @@ fn list_in(
     records: &[u64],
     ids: &mut [u8],
     read: Line,
-) -> Answer {
+) -> Answer
+    ensures { λ r. ⌜ calledOf (doneOf r (tableOf (r .state) (now (keys .entry)) (now (times .entry)) (now (fields .entry)) (now (records .entry)))) (now (ids .exit)) ≡ listIn (read .values) (now (ids .entry)) (tableOf state (now (keys .entry)) (now (times .entry)) (now (fields .entry)) (now (records .entry))) ⌝ }
+{
     let n = read.values[4] as usize;
     if n < ids.len() {
         return list(state, keys, times, fields, records, &mut ids[..n], read);
@@ -330,7 +379,9 @@ fn info(
     fields: &[u8],
     records: &[u64],
     read: Line,
-) -> Answer {
+) -> Answer
+    ensures { λ r. ⌜ doneOf r (tableOf (r .state) (now (keys .entry)) (now (times .entry)) (now (fields .entry)) (now (records .entry))) ≡ info (read .values) (tableOf state (now (keys .entry)) (now (times .entry)) (now (fields .entry)) (now (records .entry))) ⌝ }
+{
     let fabric = byte(read.values[0]);
     let endpoint = short(read.values[1]);
     let single = read.values[2] == 1;
@@ -345,7 +396,9 @@ fn info(
 }
 
 // What a write of the host answers.
-fn raw(status: u8, state: ScenesState) -> Answer {
+fn raw(status: u8, state: ScenesState) -> Answer
+    ensures { λ r. ⌜ r ≡ record { status = status; save = false; state = state; tail = Tail.Nothing } ⌝ }
+{
     Answer {
         status,
         save: false,
@@ -355,9 +408,44 @@ fn raw(status: u8, state: ScenesState) -> Answer {
 }
 
 // K: the host sets the data version.
-fn set_version(mut state: ScenesState, read: Line) -> Answer {
+fn set_version(mut state: ScenesState, read: Line) -> Answer
+    ensures { λ r. ⌜ ((k t f w : List ℕ) → doneOf r (tableOf (r .state) k t f w) ≡ setVersion (read .values) (tableOf state k t f w)) ⌝ }
+{
     state.dataver = long(read.values[0]);
     raw(Status::SUCCESS, state)
+}
+
+// Whether one more entry has a fabric, and fits its fields, the table and slices of these lengths.
+fn entry_fits(
+    state: ScenesState,
+    fabric: u8,
+    ext: usize,
+    keys: usize,
+    times: usize,
+    fields: usize,
+) -> bool
+    ensures { λ r. ⌜ r ≡ entryFits state fabric ext keys times fields ⌝ }
+{
+    let n = state.entries;
+    if fabric == 0 {
+        return false;
+    }
+    if Limits::MAX_EXT_FIELDS_LEN < ext {
+        return false;
+    }
+    if state.size <= n {
+        return false;
+    }
+    if Limits::MAX_SCENES <= n {
+        return false;
+    }
+    if keys <= n {
+        return false;
+    }
+    if times <= n {
+        return false;
+    }
+    n * Slot::STRIDE + Slot::STRIDE <= fields
 }
 
 // e: the host writes an entry behind the last one, as it stands.
@@ -368,62 +456,65 @@ fn push_entry(
     fields: &mut [u8],
     line: &[u8],
     read: Line,
-) -> Answer {
+) -> Answer
+    ensures { λ r. ⌜ ((w : List ℕ) → doneOf r (tableOf (r .state) (now (keys .exit)) (now (times .exit)) (now (fields .exit)) w) ≡ pushEntry (read .values) (bytesAt read (now (line .entry)) 5) (tableOf state (now (keys .entry)) (now (times .entry)) (now (fields .entry)) w)) ⌝ }
+{
     let ext = part(line, read.starts[5], read.values[5] as usize);
     let key = scene_key(read);
     let time = long(read.values[4]);
     let n = state.entries;
-    if key.fabric == 0 {
-        return raw(Fault::UNSOUND, state);
+    if entry_fits(
+        state,
+        key.fabric,
+        ext.len(),
+        keys.len(),
+        times.len(),
+        fields.len(),
+    ) {
+        slots::put(keys, times, fields, n, key.word(), time, ext);
+        state.entries = n + 1;
+        return raw(Status::SUCCESS, state);
     }
-    if Limits::MAX_EXT_FIELDS_LEN < ext.len() {
-        return raw(Fault::UNSOUND, state);
-    }
-    if state.size <= n {
-        return raw(Fault::UNSOUND, state);
-    }
-    if Limits::MAX_SCENES <= n {
-        return raw(Fault::UNSOUND, state);
-    }
-    if keys.len() <= n {
-        return raw(Fault::UNSOUND, state);
-    }
-    if times.len() <= n {
-        return raw(Fault::UNSOUND, state);
-    }
-    if fields.len() < n * Slot::STRIDE + Slot::STRIDE {
-        return raw(Fault::UNSOUND, state);
-    }
-    slots::put(keys, times, fields, n, key.word(), time, ext);
-    state.entries = n + 1;
-    raw(Status::SUCCESS, state)
+    raw(Fault::UNSOUND, state)
 }
 
 // The word of a record that is valid or not.
-fn record_word(key: SceneKey, valid: u64) -> u64 {
+fn record_word(key: SceneKey, valid: u64) -> u64
+    ensures { λ r. ⌜ r ≡ recordWord key valid ⌝ }
+{
     if valid == 0 {
         return key.word();
     }
     key.valid_record()
 }
 
+// Whether one more record has a fabric, and fits the table and a slice of this length.
+fn record_fits(state: ScenesState, fabric: u8, records: usize) -> bool
+    ensures { λ r. ⌜ r ≡ recordFits state fabric records ⌝ }
+{
+    let n = state.recorded;
+    if fabric == 0 {
+        return false;
+    }
+    if state.size <= n {
+        return false;
+    }
+    n < records
+}
+
 // r: the host writes a record behind the last one, as it stands.
-fn push_record(mut state: ScenesState, records: &mut [u64], read: Line) -> Answer {
+fn push_record(mut state: ScenesState, records: &mut [u64], read: Line) -> Answer
+    ensures { λ r. ⌜ ((k t f : List ℕ) → doneOf r (tableOf (r .state) k t f (now (records .exit))) ≡ pushRecord (read .values) (tableOf state k t f (now (records .entry)))) ⌝ }
+{
     let key = scene_key(read);
     let word = record_word(key, read.values[4]);
     let n = state.recorded;
-    if key.fabric == 0 {
-        return raw(Fault::UNSOUND, state);
+    if record_fits(state, key.fabric, records.len()) {
+        records[n] = word;
+        state.recorded = n + 1;
+        return raw(Status::SUCCESS, state);
     }
-    if state.size <= n {
-        return raw(Fault::UNSOUND, state);
-    }
-    if records.len() <= n {
-        return raw(Fault::UNSOUND, state);
-    }
-    records[n] = word;
-    state.recorded = n + 1;
-    raw(Status::SUCCESS, state)
+    raw(Fault::UNSOUND, state)
 }
 
 // A command that changes the table.
@@ -435,7 +526,9 @@ fn command(
     records: &mut [u64],
     line: &[u8],
     read: Line,
-) -> Answer {
+) -> Answer
+    ensures { λ r. ⌜ doneOf r (tableOf (r .state) (now (keys .exit)) (now (times .exit)) (now (fields .exit)) (now (records .exit))) ≡ command (read .letter) (read .values) (bytesAt read (now (line .entry))) (tableOf state (now (keys .entry)) (now (times .entry)) (now (fields .entry)) (now (records .entry))) ⌝ }
+{
     let letter = read.letter;
     match letter {
         b'A' => add(state, keys, times, fields, records, line, read),
@@ -455,7 +548,9 @@ fn query(
     records: &mut [u64],
     ids: &mut [u8],
     read: Line,
-) -> Answer {
+) -> Answer
+    ensures { λ r. ⌜ calledOf (doneOf r (tableOf (r .state) (now (keys .entry)) (now (times .entry)) (now (fields .entry)) (now (records .exit)))) (now (ids .exit)) ≡ query (read .letter) (read .values) (now (ids .entry)) (tableOf state (now (keys .entry)) (now (times .entry)) (now (fields .entry)) (now (records .entry))) ⌝ }
+{
     let letter = read.letter;
     match letter {
         b'V' => view(state, keys, times, fields, records, read),
@@ -473,7 +568,9 @@ fn event(
     fields: &mut [u8],
     records: &mut [u64],
     read: Line,
-) -> Answer {
+) -> Answer
+    ensures { λ r. ⌜ doneOf r (tableOf (r .state) (now (keys .exit)) (now (times .exit)) (now (fields .exit)) (now (records .exit))) ≡ event (read .letter) (read .values) (tableOf state (now (keys .entry)) (now (times .entry)) (now (fields .entry)) (now (records .entry))) ⌝ }
+{
     let letter = read.letter;
     match letter {
         b'T' => {
@@ -500,7 +597,9 @@ fn host_write(
     records: &mut [u64],
     line: &[u8],
     read: Line,
-) -> Answer {
+) -> Answer
+    ensures { λ r. ⌜ doneOf r (tableOf (r .state) (now (keys .exit)) (now (times .exit)) (now (fields .exit)) (now (records .exit))) ≡ hostWrite (read .letter) (read .values) (bytesAt read (now (line .entry))) (tableOf state (now (keys .entry)) (now (times .entry)) (now (fields .entry)) (now (records .entry))) ⌝ }
+{
     let letter = read.letter;
     match letter {
         b'K' => set_version(state, read),
@@ -519,20 +618,18 @@ pub(crate) fn call(
     ids: &mut [u8],
     line: &[u8],
     read: Line,
-) -> Answer {
+) -> Answer
+    ensures { λ r. ⌜ calledOf (doneOf r (tableOf (r .state) (now (keys .exit)) (now (times .exit)) (now (fields .exit)) (now (records .exit)))) (now (ids .exit)) ≡ call (read .letter) (read .values) (bytesAt read (now (line .entry))) (now (ids .entry)) (tableOf state (now (keys .entry)) (now (times .entry)) (now (fields .entry)) (now (records .entry))) ⌝ }
+{
     let letter = read.letter;
-    match letter {
-        b'A' | b'S' | b'R' | b'X' | b'C' => command(
-            state,
-            keys,
-            times,
-            fields,
-            records,
-            line,
-            read,
-        ),
-        b'V' | b'L' | b'M' | b'I' => query(state, keys, times, fields, records, ids, read),
-        b'K' | b'e' | b'r' => host_write(state, keys, times, fields, records, line, read),
-        _ => event(state, keys, times, fields, records, read),
+    if one_of(letter, b"ASRXC") {
+        return command(state, keys, times, fields, records, line, read);
     }
+    if one_of(letter, b"VLMI") {
+        return query(state, keys, times, fields, records, ids, read);
+    }
+    if one_of(letter, b"Ker") {
+        return host_write(state, keys, times, fields, records, line, read);
+    }
+    event(state, keys, times, fields, records, read)
 }

@@ -7,6 +7,8 @@ use text::next_word;
 use text::number;
 ghost use Prim.Native.Nat.{_≤_};
 ghost use lib.ListN.{length};
+ghost use mathlib.Core.Path.{_≡_};
+ghost use Rattle.script.specs.Calls.{oneOf};
 
 // The kinds of words.
 enum Kind {
@@ -203,28 +205,29 @@ fn kinds_of(letter: u8) -> [Kind; 10] {
     }
 }
 
+// Whether a letter is one of some.
+pub(crate) fn one_of(letter: u8, letters: &[u8]) -> bool
+    ensures { λ r. ⌜ r ≡ oneOf letter (now (letters .entry)) ⌝ }
+{
+    let mut i = 0;
+    while i < letters.len() {
+        if letter == letters[i] {
+            return true;
+        }
+        i += 1;
+    }
+    false
+}
+
 // Whether a letter is a command: of both programs, or of scenetrace alone.
 fn is_known(letter: u8, trace: bool) -> bool {
-    match letter {
-        b'N' | b'A' | b'S' | b'V' => true,
-        b'R'
-        | b'X'
-        | b'C'
-        | b'L'
-        | b'M'
-        | b'I'
-        | b'T'
-        | b'F'
-        | b'Z'
-        | b'U'
-        | b'W'
-        | b'E'
-        | b'D'
-        | b'K'
-        | b'e'
-        | b'r' => trace,
-        _ => false,
+    if one_of(letter, b"NASV") {
+        return true;
     }
+    if trace {
+        return one_of(letter, b"RXCLMITFZUWEDKer");
+    }
+    false
 }
 
 // The largest table of a program.

@@ -1,4 +1,9 @@
 -- `script::calls::list_in` is safe and ends. Assumes nothing.
+use Rattle.script.proofs.CallLaws.{list-all}
+use Rattle.script.specs.Calls.{valueAt, Called, calledOf, listIn}
+use lib.ListN.{drop}
+use mathlib.Core.List.{_++_}
+use mathlib.Core.Path.{ap, _∙_}
 use mathlib.Core.Path.{sym}
 use lib.Seq.{length-take-le}
 use borrow.Author.Needs.{needs}
@@ -21,7 +26,8 @@ same-length : tie.Need-same-length
 same-length c = search needs
 
 returns : tie.Need-returns
-returns c = search needs
+unfolding listIn
+returns c = ap (λ (x : Called). calledOf (x .done) (x .ids ++ drop (valueAt (c .before .before .before .before .before .before .before .before .before .before .before .args .t7 .values) 4) (c .before .before .before .before .before .before .before .before .before .before .before .args .ids .now))) (c .before .before .list .ensures)
 
 list-requires-2 : tie.Need-list-requires-2
 list-requires-2 c κs = search needs
@@ -30,7 +36,7 @@ same-length-2 : tie.Need-same-length-2
 same-length-2 c = search needs
 
 returns-2 : tie.Need-returns-2
-returns-2 c = search needs
+returns-2 c = c .before .before .list2 .ensures ∙ list-all _ _ _ (c .before .before .before .before .if1 .left)
 
 pub list-in-spec : {M : Type 1} → statement M
 list-in-spec =

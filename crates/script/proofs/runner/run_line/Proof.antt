@@ -1,11 +1,18 @@
 -- `script::runner::run_line` meets its contract. Assumes nothing.
-use mathlib.Core.Path.{ap}
+use Rattle.text.specs.Writing.{sheet}
+use Rattle.script.specs.Calls.{bytesAt}
 use Rattle.script.specs.declared.runner.Machine.{Machine}
-use Rattle.script.specs.Running.{counted}
-use Rattle.script.proofs.Running.{writes-within, ended-runs}
+use Rattle.script.specs.declared.reader.Verdict.{Verdict}
+use Rattle.script.specs.Running.{counted, Session, session, wrong, obeyed, verdictRuns}
+use Rattle.script.proofs.RunLaws.{ended}
+use mathlib.Core.Path.{sym, ap, _∙_}
 use borrow.Author.Needs.{needs}
 use Rattle.script.proofs.runner.run_line.Statement.{statement}
 use Rattle.script.proofs.runner.run_line.Tie as tie
+
+-- all that came in, at a machine
+abbrev came : tie.Start → Machine → Session
+came s m = let a = s .args in session m (a .keys .now) (a .times .now) (a .fields .now) (a .records .now) (a .ids .now) (sheet (a .out .now) (a .at))
 
 counted-requires : tie.Need-counted-requires
 counted-requires c κs = search needs
@@ -33,8 +40,8 @@ same-length c = search needs
 
 returns : tie.Need-returns
 returns c =
-    let e = c .before .before .before .before .before .before .counted .ensures in
-    record { lines = ap (λ (m : Machine). m .lines) e; trace = ap (λ (m : Machine). m .trace) e; within = λ h. h }
+    let read = c .before .before .before .before .read-line .result in
+    (read, ap (came (c .before .before .before .before .before .before .before .before .before .before .before .before .before .before)) (c .before .before .before .before .before .before .counted .ensures) ∙ ap (λ (v : Verdict). verdictRuns v read (c .before .before .before .before .read-line .last .0) (came (c .before .before .before .before .before .before .before .before .before .before .before .before .before .before) (counted (c .before .before .before .before .before .before .before .before .before .before .before .before .before .before .args .machine)))) (sym (c .enum-told .given .1)))
 
 same-length-2 : tie.Need-same-length-2
 same-length-2 c = search needs
@@ -44,11 +51,13 @@ same-length-3 c = search needs
 
 returns-2 : tie.Need-returns-2
 returns-2 c =
-    let e = c .before .before .before .before .before .before .before .before .before .before .before .counted .ensures in
-    ended-runs _ (writes-within _) _ _ _ (c .before .before .wrong .kept .1 .0) _ _ _
-    (ap (λ (m : Machine). m .lines) e)
-    (ap (λ (m : Machine). m .trace) e)
-    (c .before .before .wrong .ensures)
+    let read = c .before .before .before .before .before .before .before .before .before .read-line .result in
+    let m = c .before .before .before .before .before .before .before .before .before .before .before .counted .result in (
+      read,
+      ended m m _ _ _ _ _ _ _ _ _ _ (c .before .before .wrong .ensures)
+          ∙ ap (λ (m : Machine). wrong (c .before .before .before .before .before .verdict .given .0 .0) (came (c .before .before .before .before .before .before .before .before .before .before .before .before .before .before .before .before .before .before .before) m)) (c .before .before .before .before .before .before .before .before .before .before .before .counted .ensures)
+          ∙ ap (λ (v : Verdict). verdictRuns v read (c .before .before .before .before .before .before .before .before .before .read-line .last .0) (came (c .before .before .before .before .before .before .before .before .before .before .before .before .before .before .before .before .before .before .before) (counted (c .before .before .before .before .before .before .before .before .before .before .before .before .before .before .before .before .before .before .before .args .machine)))) (sym (c .before .before .before .before .before .verdict .given .1)),
+    )
 
 same-length-4 : tie.Need-same-length-4
 same-length-4 c = search needs
@@ -72,7 +81,14 @@ same-length-10 : tie.Need-same-length-10
 same-length-10 c = search needs
 
 returns-3 : tie.Need-returns-3
-returns-3 c = rw (c .before .before .before .before .before .before .before .before .before .before .before .before .before .before .before .before .before .before .before .before .before .before .before .before .before .before .counted .ensures) at (c .before .before .before .before .before .before .before .before .before .before .before .before .obeyed .ensures)
+returns-3 c =
+    let read = c .before .before .before .before .before .before .before .before .before .before .before .before .before .before .before .before .before .before .before .before .before .before .before .before .read-line .result in
+    let line = c .before .before .before .before .before .before .before .before .before .before .before .before .before .before .before .before .before .before .before .before .before .before .before .before .read-line .last .0 in (
+      read,
+      c .before .before .before .before .before .before .before .before .before .before .before .before .obeyed .ensures
+          ∙ ap (λ (m : Machine). obeyed (read .letter) (read .values) (bytesAt read line) (came (c .before .before .before .before .before .before .before .before .before .before .before .before .before .before .before .before .before .before .before .before .before .before .before .before .before .before .before .before .before .before .before .before .before .before) m)) (c .before .before .before .before .before .before .before .before .before .before .before .before .before .before .before .before .before .before .before .before .before .before .before .before .before .before .counted .ensures)
+          ∙ ap (λ (v : Verdict). verdictRuns v read line (came (c .before .before .before .before .before .before .before .before .before .before .before .before .before .before .before .before .before .before .before .before .before .before .before .before .before .before .before .before .before .before .before .before .before .before) (counted (c .before .before .before .before .before .before .before .before .before .before .before .before .before .before .before .before .before .before .before .before .before .before .before .before .before .before .before .before .before .before .before .before .before .before .args .machine)))) (sym (c .before .before .before .before .before .before .before .before .before .before .before .before .before .before .before .before .before .before .before .before .enum-told2 .given .1)),
+    )
 
 pub run-line-spec : {M : Type 1} → statement M
 run-line-spec =

@@ -1,11 +1,14 @@
 -- `script::runner::Machine::called` meets its contract. Assumes nothing.
-use mathlib.Core.Path.{refl}
-use Rattle.script.specs.declared.runner.Machine.{Machine}
-use Rattle.script.specs.Answers.{answerLine}
-use Rattle.script.proofs.Running.{answer-within, ends-within}
+use Rattle.text.specs.Writing.{sheet}
+use Rattle.script.specs.Running.{Session, session}
+use Rattle.script.proofs.RunLaws.{called-ends}
 use borrow.Author.Needs.{needs}
 use Rattle.script.proofs.runner.Machine.called.Statement.{statement}
 use Rattle.script.proofs.runner.Machine.called.Tie as tie
+
+-- all that came in
+abbrev came : tie.Start → Session
+came s = let a = s .args in session (a .self) (a .keys .now) (a .times .now) (a .fields .now) (a .records .now) (a .ids .now) (sheet (a .out .now) (a .at))
 
 call-requires : tie.Need-call-requires
 call-requires c κs = search needs
@@ -32,12 +35,7 @@ same-length-6 : tie.Need-same-length-6
 same-length-6 c = search needs
 
 returns : tie.Need-returns
-returns c =
-    record {
-      lines = refl;
-      trace = refl;
-      within = ends-within (answerLine _ _ _ _ _) (answer-within _ _ _ _ _) _ _ _ (c .before .before .put-answer .kept .0) _ (c .before .before .put-answer .ensures);
-    }
+returns c = called-ends (came (c .before .before .before .before .before .before .before .before .before .before .before .before .before .before .before .before .before .before .before .before .before .before .before .before .before .before .before .before .before .before .before .before .before .before)) _ _ _ _ _ _ _ _ _ (c .before .before .put-answer .ensures) (c .before .before .before .before .before .before .before .before .before .before .before .before .before .before .before .before .before .before .before .before .call .ensures)
 
 pub called-spec : {M : Type 1} → statement M
 called-spec =

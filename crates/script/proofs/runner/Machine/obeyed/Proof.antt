@@ -1,8 +1,6 @@
 -- `script::runner::Machine::obeyed` meets its contract. Assumes nothing.
-use mathlib.Core.Path.{refl}
-use Rattle.script.specs.declared.runner.Machine.{Machine}
-use Rattle.script.specs.Running.{sized}
-use Rattle.script.proofs.Running.{writes-within, table-within, ended-runs}
+use Rattle.script.proofs.RunLaws.{ended, obeys-size, obeys-none, obeys-table, obeys-call}
+use mathlib.Core.Path.{_∙_}
 use borrow.Author.Needs.{needs}
 use Rattle.script.proofs.runner.Machine.obeyed.Statement.{statement}
 use Rattle.script.proofs.runner.Machine.obeyed.Tie as tie
@@ -17,7 +15,7 @@ same-length : tie.Need-same-length
 same-length c = search needs
 
 returns : tie.Need-returns
-returns c = ended-runs _ (writes-within _) _ _ _ (c .before .before .sized .kept .1 .0) _ _ _ refl refl (c .before .before .sized .ensures)
+returns c = ended (c .before .before .before .before .before .before .before .before .before .before .before .before .before .args .self) _ _ _ _ _ _ _ _ _ _ _ (c .before .before .sized .ensures) ∙ obeys-size _ _ _ _ (c .before .before .before .before .before .if1 .taken)
 
 dumped-requires : tie.Need-dumped-requires
 dumped-requires c κs = search needs
@@ -38,7 +36,7 @@ same-length-6 : tie.Need-same-length-6
 same-length-6 c = search needs
 
 returns-2 : tie.Need-returns-2
-returns-2 c = ended-runs _ (table-within _) _ _ _ (c .before .before .dumped .kept .1 .1 .1 .1 .1 .0) _ _ _ refl refl (c .before .before .dumped .ensures)
+returns-2 c = ended (c .before .before .before .before .before .before .before .before .before .before .before .before .before .before .before .before .before .before .args .self) _ _ _ _ _ _ _ _ _ _ _ (c .before .before .dumped .ensures) ∙ obeys-table _ _ _ _ (c .before .before .before .before .before .before .before .before .before .before .if1 .left) (c .before .before .before .before .before .before .before .before .before .if2 .taken) (c .before .before .before .before .before .before .before .before .if3 .taken)
 
 called-requires : tie.Need-called-requires
 called-requires c κs = search needs
@@ -62,7 +60,7 @@ same-length-12 : tie.Need-same-length-12
 same-length-12 c = search needs
 
 returns-3 : tie.Need-returns-3
-returns-3 c = search needs
+returns-3 c = c .before .before .before .before .before .before .before .before .before .before .before .before .called .ensures ∙ obeys-call _ _ _ _ (c .before .before .before .before .before .before .before .before .before .before .before .before .before .before .before .before .before .before .before .before .before .if1 .left) (c .before .before .before .before .before .before .before .before .before .before .before .before .before .before .before .before .before .before .before .before .if2 .taken) (c .before .before .before .before .before .before .before .before .before .before .before .before .before .before .before .before .before .before .before .if3 .left)
 
 wrong-requires : tie.Need-wrong-requires
 wrong-requires c κs = search needs
@@ -71,7 +69,7 @@ same-length-13 : tie.Need-same-length-13
 same-length-13 c = search needs
 
 returns-4 : tie.Need-returns-4
-returns-4 c = ended-runs _ (writes-within _) _ _ _ (c .before .before .wrong .kept .1 .0) _ _ _ refl refl (c .before .before .wrong .ensures)
+returns-4 c = ended (c .before .before .before .before .before .before .before .before .before .before .before .before .before .args .self) _ _ _ _ _ _ _ _ _ _ _ (c .before .before .wrong .ensures) ∙ obeys-none _ _ _ _ (c .before .before .before .before .before .if1 .left) (c .before .before .before .before .if2 .left)
 
 pub obeyed-spec : {M : Type 1} → statement M
 obeyed-spec =

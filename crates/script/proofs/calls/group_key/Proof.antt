@@ -1,0 +1,37 @@
+-- `script::calls::group_key` meets its contract. Assumes nothing.
+use borrow.Author.Needs.{needs}
+use Rattle.script.proofs.calls.group_key.Statement.{statement}
+use Rattle.script.proofs.calls.group_key.Tie as tie
+
+element-copy-out-byte : tie.Need-element-copy-out-byte
+element-copy-out-byte c = search needs
+
+byte-requires : tie.Need-byte-requires
+byte-requires c κs = search needs
+
+element-copy-out-short : tie.Need-element-copy-out-short
+element-copy-out-short c = search needs
+
+short-requires : tie.Need-short-requires
+short-requires c κs = search needs
+
+element-copy-out-short-2 : tie.Need-element-copy-out-short-2
+element-copy-out-short-2 c = search needs
+
+short-requires-2 : tie.Need-short-requires-2
+short-requires-2 c κs = search needs
+
+returns : tie.Need-returns
+returns c = λ i. record { fabric = c .before .before .before .before .byte .ensures i; endpoint = c .before .before .short .ensures i; group = c .short2 .ensures i }
+
+pub group-key-spec : {M : Type 1} → statement M
+group-key-spec =
+    tie.close
+    (tie.spec
+    element-copy-out-byte
+    byte-requires
+    element-copy-out-short
+    short-requires
+    element-copy-out-short-2
+    short-requires-2
+    returns)

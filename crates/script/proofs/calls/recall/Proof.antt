@@ -1,0 +1,71 @@
+-- `script::calls::recall` meets its contract. Assumes nothing.
+use Rattle.scenes.specs.Table.{Table, tableOf}
+use Rattle.script.proofs.CallLaws.{recalled-done}
+use Rattle.script.specs.Calls.{recall}
+use Rattle.scenes.specs.Reads.{recallLookup}
+use Rattle.scenes.specs.Commands.{recallScene}
+use mathlib.Core.Path.{_∙_}
+use borrow.Author.Needs.{needs}
+use Rattle.script.proofs.calls.recall.Statement.{statement}
+use Rattle.script.proofs.calls.recall.Tie as tie
+
+-- the table that came in
+abbrev came : tie.Start → Table
+came s = let a = s .args in tableOf (a .state) (a .keys .now) (a .times .now) (a .fields .now) (a .records .now)
+
+scene-key-requires : tie.Need-scene-key-requires
+scene-key-requires c κs = search needs
+
+element-copy-out-membership : tie.Need-element-copy-out-membership
+element-copy-out-membership c = search needs
+
+membership-requires : tie.Need-membership-requires
+membership-requires c κs = search needs
+
+element-copy-out-transition : tie.Need-element-copy-out-transition
+element-copy-out-transition c = search needs
+
+transition-requires : tie.Need-transition-requires
+transition-requires c κs = search needs
+
+element-copy-out-applied : tie.Need-element-copy-out-applied
+element-copy-out-applied c = search needs
+
+applied-requires : tie.Need-applied-requires
+applied-requires c κs = search needs
+
+recall-lookup-requires : tie.Need-recall-lookup-requires
+recall-lookup-requires c κs = search needs
+
+recall-scene-requires : tie.Need-recall-scene-requires
+recall-scene-requires c κs = search needs
+
+scene-tail-requires : tie.Need-scene-tail-requires
+scene-tail-requires c κs = search needs
+
+same-length : tie.Need-same-length
+same-length c = search needs
+
+returns : tie.Need-returns
+unfolding recall
+returns c =
+    recalled-done _ _ _ _ _ _ _ _ _ (c .scene-tail .ensures)
+    (c .before .before .before .before .before .before .recall-lookup .ensures ∙ (λ i. recallLookup (c .before .before .before .before .before .before .before .before .before .before .before .before .before .before .scene-key .ensures i) (c .before .before .before .before .before .before .before .before .before .before .before .before .membership .ensures i) (c .before .before .before .before .before .before .before .before .before .before .transition .ensures i) (came (c .before .before .before .before .before .before .before .before .before .before .before .before .before .before .before .before .before .before .before))))
+    (c .before .before .before .before .recall-scene .ensures ∙ (λ i. recallScene (c .before .before .before .before .before .before .before .before .before .before .before .before .before .before .scene-key .ensures i) (c .before .before .before .before .before .before .before .before .before .before .before .before .membership .ensures i) (c .before .before .before .before .before .before .before .before .applied .ensures i) (came (c .before .before .before .before .before .before .before .before .before .before .before .before .before .before .before .before .before .before .before))))
+
+pub recall-spec : {M : Type 1} → statement M
+recall-spec =
+    tie.close
+    (tie.spec
+    scene-key-requires
+    element-copy-out-membership
+    membership-requires
+    element-copy-out-transition
+    transition-requires
+    element-copy-out-applied
+    applied-requires
+    recall-lookup-requires
+    recall-scene-requires
+    scene-tail-requires
+    same-length
+    returns)

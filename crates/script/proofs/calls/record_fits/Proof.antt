@@ -1,0 +1,24 @@
+-- `script::calls::record_fits` meets its contract. Assumes nothing.
+use Rattle.script.proofs.CallLaws.{nonzero}
+use Rattle.script.specs.Calls.{recordFits}
+use Rattle.words.proofs.Tests.{and-true}
+use Rattle.words.specs.Conditions.{allOf}
+use borrow.Author.Tests.{le-ltb, lt-ltb}
+use mathlib.Core.Path.{sym}
+use Rattle.script.proofs.calls.record_fits.Statement.{statement}
+use Rattle.script.proofs.calls.record_fits.Tie as tie
+
+returns : tie.Need-returns
+unfolding recordFits allOf
+returns c = rw (c .if1 .taken)
+
+returns-2 : tie.Need-returns-2
+unfolding recordFits allOf
+returns-2 c = simp (nonzero _ (c .before .before .if1 .left), le-ltb _ _ (c .if2 .taken))
+
+returns-3 : tie.Need-returns-3
+unfolding recordFits allOf
+returns-3 c = simp (nonzero _ (c .before .before .if1 .left), lt-ltb _ _ (c .if2 .left)) (sym (and-true _))
+
+pub record-fits-spec : {M : Type 1} → statement M
+record-fits-spec = tie.close (tie.spec returns returns-2 returns-3)

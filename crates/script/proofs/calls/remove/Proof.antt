@@ -1,0 +1,59 @@
+-- `script::calls::remove` meets its contract. Assumes nothing.
+use Rattle.scenes.specs.Table.{Table, tableOf}
+use Rattle.script.proofs.CallLaws.{plain-done}
+use Rattle.script.specs.Calls.{plain, remove}
+use Rattle.scenes.specs.Commands.{removeScene}
+use mathlib.Core.Path.{_∙_}
+use borrow.Author.Needs.{needs}
+use Rattle.script.proofs.calls.remove.Statement.{statement}
+use Rattle.script.proofs.calls.remove.Tie as tie
+
+-- the table that came in
+abbrev came : tie.Start → Table
+came s = let a = s .args in tableOf (a .state) (a .keys .now) (a .times .now) (a .fields .now) (a .records .now)
+
+scene-key-requires : tie.Need-scene-key-requires
+scene-key-requires c κs = search needs
+
+element-copy-out-membership : tie.Need-element-copy-out-membership
+element-copy-out-membership c = search needs
+
+membership-requires : tie.Need-membership-requires
+membership-requires c κs = search needs
+
+remove-scene-requires : tie.Need-remove-scene-requires
+remove-scene-requires c κs = search needs
+
+plain-requires : tie.Need-plain-requires
+plain-requires c κs = search needs
+
+same-length : tie.Need-same-length
+same-length c = search needs
+
+same-length-2 : tie.Need-same-length-2
+same-length-2 c = search needs
+
+same-length-3 : tie.Need-same-length-3
+same-length-3 c = search needs
+
+same-length-4 : tie.Need-same-length-4
+same-length-4 c = search needs
+
+returns : tie.Need-returns
+unfolding remove
+returns c = plain-done _ _ _ _ _ _ _ (c .plain .ensures) (c .before .before .before .before .before .before .before .before .before .remove-scene .ensures) ∙ (λ i. plain (removeScene (c .before .before .before .before .before .before .before .before .before .before .before .before .before .before .before .before .scene-key .ensures i) (c .before .before .before .before .before .before .before .before .before .before .before .before .before .before .membership .ensures i) (came (c .before .before .before .before .before .before .before .before .before .before .before .before .before .before .before .before .before .before .before .before .before))))
+
+pub remove-spec : {M : Type 1} → statement M
+remove-spec =
+    tie.close
+    (tie.spec
+    scene-key-requires
+    element-copy-out-membership
+    membership-requires
+    remove-scene-requires
+    plain-requires
+    same-length
+    same-length-2
+    same-length-3
+    same-length-4
+    returns)

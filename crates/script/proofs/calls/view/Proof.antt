@@ -1,0 +1,43 @@
+-- `script::calls::view` meets its contract. Assumes nothing.
+use Rattle.scenes.specs.Table.{Table, tableOf}
+use Rattle.script.proofs.CallLaws.{viewed-done}
+use Rattle.script.specs.Calls.{view}
+use Rattle.scenes.specs.Reads.{viewScene}
+use mathlib.Core.Path.{_∙_}
+use borrow.Author.Needs.{needs}
+use Rattle.script.proofs.calls.view.Statement.{statement}
+use Rattle.script.proofs.calls.view.Tie as tie
+
+-- the table that came in
+abbrev came : tie.Start → Table
+came s = let a = s .args in tableOf (a .state) (a .keys .now) (a .times .now) (a .fields .now) (a .records .now)
+
+scene-key-requires : tie.Need-scene-key-requires
+scene-key-requires c κs = search needs
+
+element-copy-out-membership : tie.Need-element-copy-out-membership
+element-copy-out-membership c = search needs
+
+membership-requires : tie.Need-membership-requires
+membership-requires c κs = search needs
+
+view-scene-requires : tie.Need-view-scene-requires
+view-scene-requires c κs = search needs
+
+scene-tail-requires : tie.Need-scene-tail-requires
+scene-tail-requires c κs = search needs
+
+returns : tie.Need-returns
+unfolding view
+returns c = viewed-done _ _ _ _ _ _ _ _ _ (c .scene-tail .ensures) (c .before .before .view-scene .ensures ∙ (λ i. viewScene (c .before .before .before .before .before .scene-key .ensures i) (c .before .before .before .membership .ensures i) (came (c .before .before .before .before .before .before .before .before .before .before))))
+
+pub view-spec : {M : Type 1} → statement M
+view-spec =
+    tie.close
+    (tie.spec
+    scene-key-requires
+    element-copy-out-membership
+    membership-requires
+    view-scene-requires
+    scene-tail-requires
+    returns)

@@ -1,0 +1,110 @@
+//! What our program is given and what it has to write, by the oracle's answers.
+use crate::run::{is_dumped, is_raw, Lines};
+use crate::tally::{Call, Counts, Tally};
+
+/// The first difference: the line of the script, and what differs.
+pub struct Difference {
+    pub at: usize,
+    pub what: String,
+}
+
+/// The line for our program. Field bytes that the Rust could not read count as apply failed. Where apply was to fail
+/// and there was no set to apply, the Rust's recall succeeded: the call is not compared, and our program is told
+/// "applied", so that the tables stay the same.
+fn our_line(line: &str, answer: &str) -> String {
+    if let Some(words) = line.strip_prefix('B') {
+        return format!("A{words}");
+    }
+    if line.starts_with('L') {
+        let words = &line[..line.len() - 1];
+        if answer.ends_with(" UNREADABLE") {
+            return format!("{words}0");
+        }
+        if answer.ends_with(" NOSET") {
+            return format!("{words}1");
+        }
+    }
+    line.to_string()
+}
+
+/// The script for our program.
+pub fn our_script(script: &[String], oracle: &mut Lines<'_>) -> Vec<String> {
+    let mut ours = Vec::with_capacity(script.len());
+    for (at, line) in script.iter().enumerate() {
+        ours.push(our_line(line, oracle.take().unwrap_or("")));
+        if is_dumped(script, at) {
+            oracle.take_dump();
+        }
+    }
+    ours
+}
+
+/// The words of a recall's answer: the time that `apply` was given, or else the override or the entry's own time, and
+/// the fields.
+fn recalled<'a>(line: &'a str, words: &[&'a str]) -> Vec<&'a str> {
+    let mut answer = words[..6].to_vec();
+    if let [given, _sets, stored, fields] = words[6..] {
+        let requested = line.split(' ').nth(6).unwrap_or("-");
+        let unapplied = if requested == "-" || requested == "null" { stored } else { requested };
+        answer.extend([if given == "-" { unapplied } else { given }, fields]);
+    }
+    answer
+}
+
+/// The oracle's answer as our program writes it.
+pub fn our_answer(line: &str, answer: &str) -> String {
+    let mut words: Vec<&str> = answer.split(' ').collect();
+    match words[0] {
+        "B" => {
+            words[0] = "A";
+            words.retain(|word| !word.starts_with("asked="));
+        }
+        "L" => {
+            words.retain(|word| *word != "UNREADABLE" && *word != "NOSET");
+            words = recalled(line, &words);
+        }
+        "M" => {
+            if words.last() == Some(&"-") {
+                words.pop();
+            }
+            return words.join(" ").replace(',', " ");
+        }
+        _ => return answer.to_string(),
+    }
+    words.join(" ")
+}
+
+/// Compares the answers to one script, and counts them.
+pub fn compare(
+    script: &[String],
+    oracle: &mut Lines<'_>,
+    ours: &mut Lines<'_>,
+    tally: &mut Tally,
+) -> Result<(), Difference> {
+    let mut before = Counts::default();
+    tally.start(script);
+    for (at, line) in script.iter().enumerate() {
+        let differ = |what: String| Err(Difference { at, what });
+        let Some(answer) = oracle.take() else {
+            return differ("the oracle wrote no answer".into());
+        };
+        let expected = our_answer(line, answer);
+        let Some(ours_answer) = ours.take() else {
+            return differ("our program wrote no answer".into());
+        };
+        if answer.starts_with('?') || expected != ours_answer {
+            return differ(format!("answers: oracle {expected:?}, ours {ours_answer:?}"));
+        }
+        let dumped = is_dumped(script, at);
+        let dump = if dumped { oracle.take_dump() } else { &[] };
+        if dumped && dump != ours.take_dump() {
+            return differ("tables".into());
+        }
+        let after = Counts::read(answer);
+        if !is_raw(line) {
+            tally.count(&Call { line, answer, before, after, dump });
+        }
+        before = after;
+    }
+    Ok(())
+}

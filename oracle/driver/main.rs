@@ -1,0 +1,164 @@
+//! The driver of differential runs: gives the same scripts to the oracle and to our program, and compares.
+mod compare;
+mod fields;
+mod generate;
+mod random;
+mod record;
+mod run;
+mod shrink;
+mod sizes;
+mod tally;
+
+use std::process::exit;
+use std::sync::mpsc::{sync_channel, Receiver};
+use std::time::Instant;
+
+use compare::Difference;
+use run::Lines;
+use shrink::Programs;
+use tally::Tally;
+
+/// From so many calls on, every answer must have been met a hundred times.
+const COMPLETE: u64 = 200_000;
+const WANTED: u64 = 100;
+/// About so many calls go to a process.
+const BATCH: usize = 8_000;
+
+fn fail(what: &str) -> ! {
+    eprintln!("differential: {what}");
+    exit(1)
+}
+
+/// Scripts, what the oracle wrote, and the scripts for our program.
+struct Batch {
+    first: u64,
+    scripts: Vec<Vec<String>>,
+    ours: Vec<Vec<String>>,
+    oracle_wrote: Vec<u8>,
+}
+
+fn joined(scripts: &[Vec<String>]) -> String {
+    scripts.iter().map(|script| run::text(script)).collect()
+}
+
+/// The scripts of a seed from an index on. A large table counts for more calls: its dumps are long.
+fn scripts_from(seed: u64, first: u64) -> Vec<Vec<String>> {
+    let mut scripts = Vec::new();
+    let mut cost = 0;
+    while cost < BATCH {
+        let script = generate::script(seed, first + scripts.len() as u64);
+        cost += if script.len() > 100 { 10 * script.len() / 8 } else { script.len() };
+        scripts.push(script);
+    }
+    scripts
+}
+
+fn asked(oracle: &str, seed: u64, first: u64) -> Result<Batch, String> {
+    let scripts = scripts_from(seed, first);
+    let oracle_wrote = run::run(oracle, joined(&scripts))?;
+    let mut lines = Lines(&oracle_wrote);
+    let ours = scripts.iter().map(|script| compare::our_script(script, &mut lines)).collect();
+    Ok(Batch { first, scripts, ours, oracle_wrote })
+}
+
+/// Batches, made by a second thread while our program runs.
+fn batches(oracle: String, seed: u64) -> Receiver<Result<Batch, String>> {
+    let (send, receive) = sync_channel(1);
+    std::thread::spawn(move || {
+        let mut first = 0;
+        loop {
+            let batch = asked(&oracle, seed, first);
+            first += batch.as_ref().map_or(0, |b| b.scripts.len() as u64);
+            if send.send(batch).is_err() {
+                return;
+            }
+        }
+    });
+    receive
+}
+
+fn indented(text: &[u8]) -> String {
+    String::from_utf8_lossy(text).lines().map(|line| format!("  {line}\n")).collect()
+}
+
+fn report(programs: &Programs, seed: u64, index: u64, script: &[String], found: &Difference) -> ! {
+    println!("DIFFERENCE: seed {seed}, script {index}, line {}: {}", found.at + 1, found.what);
+    let small = programs.shrink(script.to_vec(), found);
+    match programs.pair(&small) {
+        Err(what) => println!("{what}"),
+        Ok(pair) => {
+            let what = pair.difference.map_or("no longer found in a run of its own".into(), |d| d.what);
+            println!("smallest script found ({what}):\n{}", indented(run::text(&small).as_bytes()));
+            println!("as given to our program:\n{}", indented(run::text(&pair.ours).as_bytes()));
+            println!("oracle:\n{}", indented(&pair.oracle_wrote));
+            println!("ours:\n{}", indented(&pair.ours_wrote));
+        }
+    }
+    exit(1)
+}
+
+fn compare_batch(programs: &Programs, seed: u64, batch: &Batch, tally: &mut Tally) {
+    let ours_wrote = run::run(&programs.ours, joined(&batch.ours)).unwrap_or_else(|what| fail(&what));
+    let (mut oracle, mut ours) = (Lines(&batch.oracle_wrote), Lines(&ours_wrote));
+    for (i, script) in batch.scripts.iter().enumerate() {
+        if let Err(found) = compare::compare(script, &mut oracle, &mut ours, tally) {
+            report(programs, seed, batch.first + i as u64, script, &found);
+        }
+    }
+    if !oracle.0.is_empty() || !ours.0.is_empty() {
+        fail("a program wrote more than it was asked for");
+    }
+}
+
+/// Whether every answer was met often enough.
+fn complete(tally: &Tally, calls: u64) -> bool {
+    let missing = tally.missing(WANTED);
+    if missing.is_empty() {
+        println!("every answer of every call was met at least {WANTED} times");
+        return true;
+    }
+    println!("answers met fewer than {WANTED} times:");
+    missing.iter().for_each(|answer| println!("  {answer}"));
+    if calls < COMPLETE {
+        println!("note: with fewer than {COMPLETE} calls that is no failure");
+    }
+    calls < COMPLETE
+}
+
+fn differential(programs: &Programs, seed: u64, calls: u64) -> bool {
+    let start = Instant::now();
+    let mut tally = Tally::default();
+    let batches = batches(programs.oracle.clone(), seed);
+    while tally.calls < calls {
+        match batches.recv() {
+            Ok(Ok(batch)) => compare_batch(programs, seed, &batch, &mut tally),
+            Ok(Err(what)) => fail(&what),
+            Err(_) => fail("no further scripts"),
+        }
+    }
+    tally.print();
+    let seconds = start.elapsed().as_secs();
+    println!("seed {seed}: {} calls in {} scripts, no difference, {seconds} s", tally.calls, tally.scripts);
+    complete(&tally, calls)
+}
+
+fn number(words: &[String], at: usize, name: &str) -> u64 {
+    words.get(at).and_then(|word| word.parse().ok()).unwrap_or_else(|| fail(&format!("{name} is a number")))
+}
+
+fn main() {
+    let words: Vec<String> = std::env::args().skip(1).collect();
+    let word = |at: usize| words.get(at).cloned().unwrap_or_default();
+    let done = match word(0).as_str() {
+        "compare" => {
+            let programs = Programs { oracle: word(1), ours: word(2) };
+            differential(&programs, number(&words, 3, "seed"), number(&words, 4, "calls"))
+        }
+        "record" => match record::record(&word(1), number(&words, 2, "seed"), &word(3), &word(4)) {
+            Ok(()) => true,
+            Err(what) => fail(&what),
+        },
+        _ => fail("usage: driver compare ORACLE OURS SEED CALLS, or driver record ORACLE SEED STDIN STDOUT"),
+    };
+    exit(if done { 0 } else { 1 })
+}

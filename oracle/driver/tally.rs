@@ -1,0 +1,222 @@
+//! What was compared: calls by kind and answer.
+use std::collections::BTreeMap;
+
+/// Entries, records and version behind an answer.
+#[derive(Clone, Copy, Default)]
+pub struct Counts {
+    pub entries: usize,
+    pub records: usize,
+    pub version: u32,
+}
+
+impl Counts {
+    /// Of an answer line; of an empty table for any other line.
+    pub fn read(answer: &str) -> Self {
+        let mut words = answer.split(' ').skip(3);
+        let mut number = || words.next().and_then(|word| word.parse::<u64>().ok()).unwrap_or(0);
+        Self { entries: number() as usize, records: number() as usize, version: number() as u32 }
+    }
+}
+
+/// A call, the oracle's answer to it, and the table behind it.
+pub struct Call<'a> {
+    pub line: &'a str,
+    pub answer: &'a str,
+    pub before: Counts,
+    pub after: Counts,
+    pub dump: &'a [u8],
+}
+
+impl Call<'_> {
+    fn word(&self, at: usize) -> &str {
+        self.line.split(' ').nth(at).unwrap_or("")
+    }
+
+    fn said(&self, at: usize) -> &str {
+        self.answer.split(' ').nth(at).unwrap_or("")
+    }
+
+    /// A membership answer is consulted unless the group is 0.
+    fn consulted(&self, group: usize, member: usize, answer: &str) -> bool {
+        self.word(group) != "0" && self.word(member) == answer
+    }
+
+    fn grew(&self) -> bool {
+        self.before.entries < self.after.entries
+    }
+
+    /// Whether the list of records was full, so that the fabric's new record was dropped.
+    fn dropped(&self, size: usize) -> bool {
+        let record = format!("\n r {} ", self.word(1));
+        self.after.records == size && !self.dump.windows(record.len()).any(|w| w == record.as_bytes())
+    }
+
+    /// What tells answers of the same status apart.
+    fn cause(&self, size: usize) -> &'static str {
+        let either = |test: bool, yes: &'static str, no: &'static str| if test { yes } else { no };
+        match (self.letter(), self.said(1)) {
+            ("A", "00") => either(self.grew(), "new scene", "known scene"),
+            ("A", "85") => either(self.consulted(3, 6, "0"), "membership", "attribute not scenable"),
+            ("A", "87") => either(matches!(self.word(4), "0" | "255"), "scene", "time"),
+            ("A", "89") => either(self.word(8).len() > 256, "fields too long", "table full"),
+            ("S", "00") if self.dropped(size) => "record dropped",
+            ("S", "00") => either(self.grew(), "new scene", "known scene"),
+            ("L", "00") => either(self.dropped(size), "record dropped", "recalled"),
+            ("L", "F4") => either(self.answer.ends_with("UNREADABLE"), "fields unreadable", "apply failed"),
+            ("V", "00") => either(self.answer.ends_with(" -"), "no fields", "fields"),
+            ("M", "00") => either(self.answer.ends_with(" -"), "empty list", "list"),
+            ("I", "00") => either(self.answer.ends_with(" none"), "nothing", "row"),
+            ("X" | "F", "00") => either(self.said(2) == "1", "something went", "nothing went"),
+            ("T", "00") => either(self.before.version != self.after.version, "records changed", "no record changed"),
+            ("C", "00") if self.whole() => either(self.grew(), "group, new scenes", "group, known scenes"),
+            ("C", "00") => either(self.grew(), "new scene", "known scene"),
+            ("C", "85") => either(self.consulted(4, 8, "0"), "source group", "target group"),
+            ("C", "F2") => either(self.consulted(4, 8, "2"), "source group", "target group"),
+            ("C", "89") => either(self.grew(), "midway of a group", "before any copy"),
+            _ => "",
+        }
+    }
+
+    /// Whether a copy is of a whole group.
+    fn whole(&self) -> bool {
+        self.word(3).parse::<u8>().is_ok_and(|mode| mode % 2 == 1)
+    }
+
+    fn letter(&self) -> &'static str {
+        const LETTERS: [&str; 15] = ["A", "S", "V", "R", "X", "C", "L", "M", "I", "T", "F", "Z", "U", "W", "E"];
+        let letter = if self.line.starts_with('B') { "A" } else { &self.line[..1] };
+        LETTERS.iter().copied().find(|l| *l == letter).unwrap_or("?")
+    }
+}
+
+/// Every answer that can occur in a sound table, by letter, status and cause.
+#[rustfmt::skip]
+pub const ANSWERS: &[(&str, &str)] = &[
+    ("A", "00 new scene"), ("A", "00 known scene"), ("A", "85 membership"), ("A", "85 attribute not scenable"),
+    ("A", "87 scene"), ("A", "87 time"), ("A", "89 fields too long"), ("A", "89 table full"), ("A", "F1"),
+    ("A", "F2"), ("A", "F7"),
+    ("S", "00 new scene"), ("S", "00 known scene"), ("S", "00 record dropped"), ("S", "85"), ("S", "87"), ("S", "89"),
+    ("S", "F1"), ("S", "F2"), ("S", "F3"),
+    ("V", "00 fields"), ("V", "00 no fields"), ("V", "85"), ("V", "87"), ("V", "8B"), ("V", "F1"), ("V", "F2"),
+    ("R", "00"), ("R", "85"), ("R", "87"), ("R", "8B"), ("R", "F1"), ("R", "F2"),
+    ("X", "00 something went"), ("X", "00 nothing went"), ("X", "85"), ("X", "F1"), ("X", "F2"),
+    ("C", "00 new scene"), ("C", "00 known scene"), ("C", "00 group, new scenes"), ("C", "00 group, known scenes"),
+    ("C", "85 source group"), ("C", "85 target group"), ("C", "87"), ("C", "89 before any copy"),
+    ("C", "89 midway of a group"), ("C", "8B"), ("C", "F1"), ("C", "F2 source group"), ("C", "F2 target group"),
+    ("L", "00 recalled"), ("L", "00 record dropped"), ("L", "85"), ("L", "87"), ("L", "8B"), ("L", "F1"), ("L", "F2"),
+    ("L", "F4 apply failed"), ("L", "F4 fields unreadable"),
+    ("M", "00 list"), ("M", "00 empty list"), ("M", "85"), ("M", "F1"), ("M", "F2"),
+    ("I", "00 row"), ("I", "00 nothing"), ("I", "F1"), ("I", "F5"),
+    ("T", "00 records changed"), ("T", "00 no record changed"),
+    ("F", "00 something went"), ("F", "00 nothing went"), ("F", "F1"),
+    ("Z", "00"), ("U", "00"), ("W", "00"), ("E", "00"),
+];
+
+const LENGTHS: [usize; 7] = [0, 1, 126, 127, 128, 129, 200];
+
+#[derive(Default)]
+pub struct Tally {
+    pub scripts: u64,
+    pub calls: u64,
+    answers: BTreeMap<(&'static str, String), u64>,
+    by_size: BTreeMap<usize, u64>,
+    lengths: BTreeMap<(char, usize), u64>,
+    others: BTreeMap<&'static str, u64>,
+    size: usize,
+    raw: bool,
+}
+
+impl Tally {
+    pub fn start(&mut self, script: &[String]) {
+        self.scripts += 1;
+        self.size = script[0][2..].parse().unwrap_or(0);
+        self.raw = script.iter().any(|line| line.starts_with(['e', 'r']));
+    }
+
+    fn other(&mut self, what: &'static str) {
+        *self.others.entry(what).or_default() += 1;
+    }
+
+    pub fn count(&mut self, call: &Call<'_>) {
+        if call.answer.ends_with(" NOSET") {
+            return self.other("recalls not compared: apply failed, but there was no set to apply");
+        }
+        self.calls += 1;
+        *self.answers.entry(answer_of(call, self.size)).or_default() += 1;
+        *self.by_size.entry(self.size).or_default() += 1;
+        self.count_lengths(call);
+        self.count_others(call);
+    }
+
+    /// Adds and stores by the length of the bytes that they bring.
+    fn count_lengths(&mut self, call: &Call<'_>) {
+        let (letter, at) = match call.letter() {
+            "A" => ('A', 8),
+            "S" => ('S', 6),
+            _ => return,
+        };
+        let word = call.word(at);
+        let length = if word == "-" { 0 } else { word.len() / 2 };
+        if LENGTHS.contains(&length) {
+            *self.lengths.entry((letter, length)).or_default() += 1;
+        }
+    }
+
+    fn count_others(&mut self, call: &Call<'_>) {
+        self.other(if self.raw { "calls on tables set up by raw lines" } else { "calls on tables reached from empty" });
+        if call.before.entries == self.size {
+            self.other("calls on a full table");
+        }
+        if call.before.records == self.size {
+            self.other("calls with a full list of records");
+        }
+        if call.after.version < call.before.version {
+            self.other("calls in which the version wrapped");
+        }
+        if call.line.starts_with('B') {
+            self.other("adds whose pairs the published code found in the fields");
+        }
+        if call.letter() == "L" && !matches!(call.said(6), "" | "-") {
+            self.other(match call.word(6) {
+                "-" | "null" => "recalls: time given to apply, without override",
+                _ => "recalls: time given to apply, with override",
+            });
+        }
+    }
+
+    /// The answers that were met less often than wanted.
+    pub fn missing(&self, wanted: u64) -> Vec<String> {
+        let met =
+            |(letter, answer): &(&'static str, &str)| *self.answers.get(&(*letter, answer.to_string())).unwrap_or(&0);
+        let few = ANSWERS.iter().filter(|answer| met(answer) < wanted);
+        few.map(|answer| format!("{} {}: {}", answer.0, answer.1, met(answer))).collect()
+    }
+
+    pub fn print(&self) {
+        println!("calls by letter and answer");
+        let order = |letter: &str| ANSWERS.iter().position(|a| a.0 == letter).unwrap_or(usize::MAX);
+        let mut answers: Vec<_> = self.answers.iter().collect();
+        answers.sort_by_key(|((letter, answer), _)| (order(letter), answer.clone()));
+        for ((letter, answer), count) in answers {
+            println!("  {letter} {answer:<28} {count:>9}");
+        }
+        println!("calls by size of the table");
+        for (size, count) in &self.by_size {
+            println!("  N {size:<28} {count:>9}");
+        }
+        println!("adds (A) and stores (S) by length of the bytes they bring");
+        for ((letter, length), count) in &self.lengths {
+            println!("  {letter} {length:<28} {count:>9}");
+        }
+        println!("further counts");
+        for (what, count) in &self.others {
+            println!("  {what:<68} {count:>9}");
+        }
+    }
+}
+
+/// Letter, status and cause.
+pub fn answer_of(call: &Call<'_>, size: usize) -> (&'static str, String) {
+    let answer = format!("{} {}", call.said(1), call.cause(size));
+    (call.letter(), answer.trim_end().to_string())
+}
