@@ -1,0 +1,3 @@
+pub mod Notice
+pub mod Pass
+pub mod Packed
