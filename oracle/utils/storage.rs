@@ -104,9 +104,10 @@ impl<T, const N: usize> Vec<T, N> {
         if self.len + other.len() > N {
             return Err(());
         }
-        for x in other {
-            let _ = self.push(x.clone());
+        for (slot, x) in self.buffer[self.len..].iter_mut().zip(other) {
+            slot.write(x.clone());
         }
+        self.len += other.len();
         Ok(())
     }
 
@@ -123,14 +124,24 @@ impl<T, const N: usize> Vec<T, N> {
     where
         F: FnMut(&T) -> bool,
     {
+        // While it runs the length is 0, so that nothing is dropped twice if `f` panics.
+        let len = core::mem::take(&mut self.len);
+        let items = self.buffer.as_mut_ptr() as *mut T;
         let mut kept = 0;
-        for i in 0..self.len {
-            if f(&self.as_slice()[i]) {
-                self.as_mut_slice().swap(kept, i);
-                kept += 1;
+        for i in 0..len {
+            unsafe {
+                let item = items.add(i);
+                if !f(&*item) {
+                    core::ptr::drop_in_place(item);
+                    continue;
+                }
+                if kept < i {
+                    core::ptr::copy_nonoverlapping(item, items.add(kept), 1);
+                }
             }
+            kept += 1;
         }
-        self.truncate(kept);
+        self.len = kept;
     }
 }
 
@@ -149,9 +160,7 @@ impl<T, const N: usize> Default for Vec<T, N> {
 impl<T: Clone, const N: usize> Clone for Vec<T, N> {
     fn clone(&self) -> Self {
         let mut v = Self::new();
-        for x in self.iter() {
-            let _ = v.push(x.clone());
-        }
+        let _ = v.extend_from_slice(self);
         v
     }
 }

@@ -21,10 +21,7 @@ pub enum Scope {
 pub fn is_sound(word: u64) -> bool
     ensures { λ r. ⌜ r ≡ recordSound word ⌝ }
 {
-    if KeyWord::RECORD_END <= word {
-        return false;
-    }
-    1 <= words::fabric_of(words::key_of_record(word))
+    (word < KeyWord::RECORD_END) & (1 <= words::fabric_of(words::key_of_record(word)))
 }
 
 // Whether each of the first n record words is sound.
@@ -32,15 +29,13 @@ pub fn records_sound(records: &[u64], n: usize) -> bool
     requires { ⌜ n ≤ length (now records) ⌝ }
     ensures { λ r. ⌜ r ≡ recordsSound (now (records .entry)) n ⌝ }
 {
+    let mut sound = true;
     let mut i = 0;
     while i < n {
-        if is_sound(records[i]) {
-            i += 1;
-        } else {
-            return false;
-        }
+        sound = sound & is_sound(records[i]);
+        i += 1;
     }
-    true
+    sound
 }
 
 // Whose record it is: the endpoint does not count.

@@ -2,16 +2,15 @@
 use Prim.Native.Nat.{ℕ, _+_, _*_, _≤_, _<_}
 use mathlib.Core.Path.{_≡_, refl, sym, ap, _∙_}
 use mathlib.Core.Bool.{Bool, true, false, cond}
-use mathlib.Core.List.{List, [], _++_, append-nil}
+use mathlib.Core.List.{List, append-nil}
 use native.Mathlib.Omega.{arith}
 use lib.Dec.{eqb, ltb}
-use lib.ListN.{length, take, drop, drop-of-length-le}
+use lib.ListN.{length, drop-of-length-le}
 use lib.Seq.{take-all}
 use borrow.Author.Tests.{lt-ltb, ltb-true, leb-true, ne-eqb}
 use Rattle.words.specs.Constants.{success, unsound, maxFields, stride}
 use Rattle.words.proofs.Tests.{all-head, all-tail}
 use Rattle.words.specs.declared.Found.{Found}
-use Rattle.words.specs.declared.Found.the-variants as finding
 use Rattle.words.specs.declared.SceneKey.{SceneKey}
 use Rattle.words.specs.declared.GroupKey.{GroupKey}
 use Rattle.requests.specs.declared.Membership.{Membership}
@@ -29,7 +28,8 @@ use Rattle.scenes.specs.Reads.{readAt, viewScene, Listed, listedOf, listIds, ge
 use Rattle.script.specs.declared.calls.Tail.{Tail}
 use Rattle.script.specs.declared.calls.Tail.the-variants.{Nothing, Ids}
 use Rattle.script.specs.declared.calls.Answer.{Answer}
-use Rattle.script.specs.Calls.{byte, long, valueAt, raw, recordWord, appendRecord, pushRecord, pushEntry, sceneKey, recordFits, entryFits, Done, doneOf, plain, readOf, sceneTail, viewed, recalled, infoTail, informed, Called, calledOf, listTail, listed, list, listIn}
+use Rattle.script.specs.Calls.{byte, long, valueAt, raw, recordWord, appendRecord, pushRecord, pushEntry, sceneKey, recordFits, entryFits, doneOf, plain, readOf, sceneTail, viewed, recalled, infoTail, informed, calledOf, listTail, listed, list, listIn}
+use Rattle.words.specs.declared.Found.the-variants as finding
 
 pub nonzero : (n : ℕ) → (n ≡ 0 → ⊥) → ltb 0 n ≡ true
 nonzero n h = lt-ltb 0 n (omega arith)

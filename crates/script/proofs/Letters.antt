@@ -7,7 +7,7 @@ use native.Mathlib.Numerals.{add-one}
 use lib.ListN.{length, getD, drop, drop-of-length-le}
 use lib.Seq.{drop-cons}
 use borrow.Author.Tests.{eq-eqb, ne-eqb}
-use Rattle.script.specs.Calls.{oneOf}
+use Rattle.script.specs.Lines.{oneOf}
 
 module _ (letter : ℕ) (xs : List ℕ) (i : ℕ) where
   pub of-found : i < length xs → letter ≡ getD xs i 0 → oneOf letter (drop i xs) ≡ true

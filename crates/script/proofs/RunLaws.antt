@@ -1,9 +1,12 @@
 -- The laws that take the pieces of a run to what a line leaves. Assumes nothing.
 use Prim.Native.Nat.{ℕ}
-use mathlib.Core.Path.{_≡_, ap, _∙_}
-use mathlib.Core.Bool.{true, false}
-use mathlib.Core.List.{List}
-use borrow.Author.Tests.{eq-eqb, ne-eqb}
+use mathlib.Core.Path.{_≡_, refl, sym, ap, subst, _∙_}
+use mathlib.Core.Bool.{true, false, false≢true}
+use mathlib.Core.List.{List, [], _∷_, map}
+use lib.Dec.{eqb}
+use lib.ListN.{getD, take, drop}
+use borrow.Author.Tests.{eqb-true, eq-eqb, ne-eqb}
+use Rattle.words.specs.Below.{positions}
 use Rattle.scenes.specs.Table.{tableOf}
 use Rattle.script.specs.declared.calls.Answer.{Answer}
 use Rattle.script.specs.declared.runner.Machine.{Machine}
@@ -11,8 +14,9 @@ use Rattle.script.specs.declared.runner.Ran.{Ran}
 use Rattle.text.specs.declared.input.Reason.the-variants.{NoTable}
 use Rattle.text.specs.Writing.{Sheet, sheet, writes}
 use Rattle.script.specs.Answers.{answerLine, sizeLine, tableLines}
-use Rattle.script.specs.Calls.{doneOf, Called, calledOf, valueAt}
-use Rattle.script.specs.Running.{sized, withState, Ended, Session, session, tableIn, answered, wrong, answeredCall, called, obeyed}
+use Rattle.script.specs.Calls.{doneOf, Called, calledOf, valueAt, call, command, query, hostWrite, event, add, store, view, remove, removeAll, copy, recall, listIn, list, info, setVersion, pushEntry, pushRecord}
+use Rattle.script.specs.Lines.{oneOf, kindsOf, Meaning, wordRead}
+use Rattle.script.specs.Running.{sized, withState, Ended, Session, session, tableIn, answered, wrong, answeredCall, called, obeyed, numbers, texts}
 
 -- a line that leaves the lent memory and the list buffer as they were
 pub ended : (n m : Machine) (k t f w ids : List ℕ) (written : Sheet → Sheet) (out after : List ℕ) (at : ℕ) (r : Ran) → Ended m written out at after r
@@ -45,3 +49,50 @@ module _ (letter : ℕ) (values : List ℕ) (bytes : ℕ → List ℕ) (s : Sess
       pub obeys-call : (letter ≡ 68 → ⊥) → called letter values bytes s ≡ obeyed letter values bytes s
       unfolding obeyed
       obeys-call h = rw (ne-eqb letter 78 other, p, ne-eqb letter 68 h)
+
+-- ---- the words of a letter say what it takes
+
+-- a claim at each of some letters
+abbrev At : (ℕ → Type 0) → List ℕ → Type 0
+At P [] = Unit
+At P (l ∷ ls) = P l × At P ls
+
+-- by letter: at each of some, and at any other
+cases : (P : ℕ → Type 0) (letter : ℕ) (ls : List ℕ) → At P ls → (oneOf letter ls ≡ false → P letter) → P letter
+unfolding oneOf
+cases P letter [] at other = other refl
+cases P letter (l ∷ ls) at other =
+    (elim (eqb letter l) as (λ b. eqb letter l ≡ b → P letter) [
+      | true ↦ λ e. subst P (sym (eqb-true letter l e)) (at .0)
+      | false ↦ λ e. cases P letter ls (at .1) (λ n. other (rw e n))
+    ]) refl
+
+-- a letter that is none of some is not one of them
+none-of : (letter : ℕ) (ls : List ℕ) → oneOf letter ls ≡ false → (l : ℕ) → oneOf l ls ≡ true → eqb letter l ≡ false
+none-of letter ls n l y = ne-eqb letter l (λ e. false≢true (sym n ∙ ap (λ (x : ℕ). oneOf x ls) e ∙ y))
+
+-- the letters that take words
+abbrev worded : List ℕ
+worded = 78 ∷ 65 ∷ 83 ∷ 86 ∷ 82 ∷ 88 ∷ 67 ∷ 76 ∷ 77 ∷ 73 ∷ 84 ∷ 70 ∷ 75 ∷ 101 ∷ 114 ∷ []
+
+-- any other letter asks for the same whatever is read behind it
+wordless : (letter : ℕ) → oneOf letter worded ≡ false → (values : List ℕ) (bytes : ℕ → List ℕ) (s : Session) → obeyed letter values bytes s ≡ obeyed letter [] (λ i. []) s
+unfolding obeyed call oneOf command query hostWrite event
+wordless letter n values bytes s =
+    let no : (l : ℕ) → oneOf l worded ≡ true → eqb letter l ≡ false = none-of letter worded n in
+    simp (no 78 refl, no 65 refl, no 83 refl, no 86 refl, no 82 refl, no 88 refl, no 67 refl, no 76 refl, no 77 refl, no 73 refl, no 84 refl, no 70 refl, no 75 refl, no 101 refl, no 114 refl)
+
+module _ (values starts line : List ℕ) (s : Session) where
+  abbrev words : ℕ → List Meaning
+  words letter = map (wordRead (kindsOf letter) values starts line) (positions 10)
+
+  -- what was read, and what the words say
+  abbrev Same : ℕ → Type 0
+  Same letter = obeyed letter values (λ i. take (getD values i 0) (drop (getD starts i 0) line)) s ≡ obeyed letter (numbers (words letter)) (texts (words letter)) s
+
+  same-each : At Same worded
+  unfolding obeyed call oneOf command query hostWrite event add store view remove removeAll copy recall listIn list info setVersion pushEntry pushRecord kindsOf positions
+  same-each = (refl, (refl, (refl, (refl, (refl, (refl, (refl, (refl, (refl, (refl, (refl, (refl, (refl, (refl, (refl, tt)))))))))))))))
+
+  pub same-words : (letter : ℕ) → Same letter
+  same-words letter = cases Same letter worded same-each (λ n. wordless letter n _ _ s ∙ sym (wordless letter n _ _ s))

@@ -1,7 +1,7 @@
 -- What a line's letter asks of the table, and what it answers. The words of a line are numbers, `values`, and some spell bytes.
 -- Letters are in ASCII codes.
 use Prim.Native.Nat.{ℕ, _+_, _*_, _%_, _^_}
-use mathlib.Core.Bool.{Bool, true, false, cond}
+use mathlib.Core.Bool.{Bool, false, cond}
 use mathlib.Core.List.{List, [], _∷_, _++_}
 use lib.Dec.{eqb, ltb, leb}
 use lib.ListN.{length, getD, set, take, drop}
@@ -15,7 +15,6 @@ use Rattle.requests.specs.declared.Membership.the-variants.{Yes, No, Failed}
 use Rattle.requests.specs.declared.CopyRequest.{CopyRequest}
 use Rattle.scenes.specs.declared.ScenesState.{ScenesState}
 use Rattle.scenes.specs.declared.Applied.{Applied}
-use Rattle.scenes.specs.declared.Applied.the-variants as applying
 use Rattle.scenes.specs.declared.Transition.{Transition}
 use Rattle.scenes.specs.declared.Transition.the-variants.{Stored, Given}
 use Rattle.scenes.specs.declared.SceneRead.{SceneRead}
@@ -29,10 +28,11 @@ use Rattle.scenes.specs.Copy.{copyScene}
 use Rattle.scenes.specs.Reads.{viewScene, recallLookup, Listed, getSceneMembership, readFabricSceneInfo}
 use Rattle.scenes.specs.Lifecycle.{scenableAttributeChanged, removeForFabric, startup, factoryReset, failSafe}
 use Rattle.script.specs.declared.reader.Line.{Line}
-use Rattle.script.specs.declared.calls.Row.{Row}
 use Rattle.script.specs.declared.calls.Tail.{Tail}
 use Rattle.script.specs.declared.calls.Tail.the-variants.{Nothing, Scene, Ids, NoRow, Info}
 use Rattle.script.specs.declared.calls.Answer.{Answer}
+use Rattle.script.specs.Lines.{oneOf}
+use Rattle.scenes.specs.declared.Applied.the-variants as applying
 
 -- ---- what is answered
 
@@ -280,10 +280,6 @@ hostWrite letter values bytes t =
     (pushRecord values t))
 
 -- ---- all letters
-
-unfoldable pub oneOf : ℕ → List ℕ → Bool
-oneOf letter [] = false
-oneOf letter (l ∷ ls) = cond (eqb letter l) true (oneOf letter ls)
 
 -- A S R X C are commands, V L M I reads, K e r raw writes, and any other an event
 unfoldable pub call : ℕ → List ℕ → (ℕ → List ℕ) → List ℕ → Table → Called

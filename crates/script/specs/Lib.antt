@@ -1,4 +1,6 @@
--- `Answers` has the lines of answers, `Calls` what a letter asks of the table, and `Running` what a line leaves.
-pub mod Answers
+-- `Lines` has what a line says, `Calls` what a letter asks of the table, `Answers` the lines of answers, and `Running` what a line
+-- leaves.
+pub mod Lines
 pub mod Calls
+pub mod Answers
 pub mod Running

@@ -2,14 +2,12 @@
 use Prim.Native.Nat.{ℕ, _+_, _%_, _^_}
 use mathlib.Core.Path.{_≡_}
 use mathlib.Core.Bool.{Bool, true, false, cond}
-use mathlib.Core.List.{List}
+use mathlib.Core.List.{List, [], map}
 use lib.Dec.{eqb}
+use lib.ListN.{getD}
 use Rattle.slots.specs.Slots.{Slots, slotsOf}
 use Rattle.scenes.specs.declared.ScenesState.{ScenesState}
 use Rattle.scenes.specs.Table.{Table, newState}
-use Rattle.script.specs.declared.reader.Line.{Line}
-use Rattle.script.specs.declared.reader.Verdict.{Verdict}
-use Rattle.script.specs.declared.reader.Verdict.the-variants as verdict
 use Rattle.script.specs.declared.runner.Machine.{Machine}
 use Rattle.script.specs.declared.runner.Ran.{Ran}
 use Rattle.text.specs.declared.input.Reason.{Reason}
@@ -17,7 +15,8 @@ use Rattle.text.specs.declared.input.Reason.the-variants.{NoTable}
 use Rattle.text.specs.Writing.{Sheet, sheet, writes}
 use Rattle.text.specs.Errors.{errorLine}
 use Rattle.script.specs.Answers.{sizeLine, answerLine, tableLines}
-use Rattle.script.specs.Calls.{Called, answerOf, valueAt, bytesAt, call}
+use Rattle.script.specs.Lines.{Meaning, Number, Text, Unclear, Said, Nothing, Wrong, Call, lineSays}
+use Rattle.script.specs.Calls.{Called, answerOf, valueAt, call}
 
 -- ---- the machine
 
@@ -88,11 +87,31 @@ obeyed letter values bytes s =
     (cond (eqb letter 68) (answered (s .machine) (tableLines (tableIn s)) s) (called letter values bytes s))
     (wrong NoTable s))
 
--- by the verdict on a line, given what was read and how that left the line
-abbrev pub verdictRuns : Verdict → Line → List ℕ → Session → Session
-verdictRuns verdict.Nothing read line s = s
-verdictRuns (verdict.Wrong reason) read line s = wrong reason s
-verdictRuns verdict.Call read line s = obeyed (read .letter) (read .values) (bytesAt read line) s
+-- the number that a word says, 0 where it says bytes
+abbrev pub numberIn : Meaning → ℕ
+numberIn (Number n) = n
+numberIn (Text bytes) = 0
+numberIn (Unclear r) = 0
 
-abbrev pub runs : Line → List ℕ → Session → Session
-runs read line s = verdictRuns (read .verdict) read line s
+-- the bytes that a word says, none where it says a number
+abbrev pub textIn : Meaning → List ℕ
+textIn (Number n) = []
+textIn (Text bytes) = bytes
+textIn (Unclear r) = []
+
+-- the numbers of all words, and the bytes of the word at a position
+abbrev pub numbers : List Meaning → List ℕ
+numbers words = map numberIn words
+
+abbrev pub texts : List Meaning → ℕ → List ℕ
+texts words i = textIn (getD words i (Number 0))
+
+-- what a line says is done
+abbrev pub saidRuns : Said → Session → Session
+saidRuns Nothing s = s
+saidRuns (Wrong reason) s = wrong reason s
+saidRuns (Call letter words) s = obeyed letter (numbers words) (texts words) s
+
+-- one line, by its text alone
+abbrev pub runLine : List ℕ → Session → Session
+runLine line s = saidRuns (lineSays (s .machine .trace) line) s

@@ -48,7 +48,7 @@ fn put_row(out: &mut [u8], at: usize, row: Row) -> usize
     put_number(out, remaining, row.fabric as u64)
 }
 
-fn least(a: usize, b: usize) -> usize
+pub(crate) fn least(a: usize, b: usize) -> usize
     ensures { λ r. ⌜ r ≡ min a b ⌝ }
 {
     if b < a { b } else { a }

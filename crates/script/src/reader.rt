@@ -1,14 +1,16 @@
 // A line of a script: a letter and the words that belong to it.
+use crate::answers::least;
 use text::Reason;
 use text::Word;
 use text::digits;
 use text::hex;
 use text::next_word;
 use text::number;
-ghost use Prim.Native.Nat.{_≤_};
-ghost use lib.ListN.{length};
+ghost use Prim.Native.Nat.{ℕ, _≤_};
 ghost use mathlib.Core.Path.{_≡_};
-ghost use Rattle.script.specs.Calls.{oneOf};
+ghost use mathlib.Core.List.{List, _++_};
+ghost use lib.ListN.{length, drop};
+ghost use Rattle.script.specs.Lines.{oneOf, known, sceneAnd, kindsOf, overrideOf, mostScenes, inFrontOf, meaning, wordSays, wordsSay, lineSays, ReadsNext, saidOf};
 
 // The kinds of words.
 enum Kind {
@@ -63,7 +65,9 @@ pub(crate) struct Line {
 }
 
 impl Line {
-    fn empty(verdict: Verdict) -> Line {
+    fn empty(verdict: Verdict) -> Line
+        ensures { λ r. ⌜ r .verdict ≡ verdict ⌝ }
+    {
         Line {
             verdict,
             letter: 0,
@@ -73,134 +77,53 @@ impl Line {
     }
 }
 
-// The kinds of the words that a letter takes.
-fn kinds_of(letter: u8) -> [Kind; 10] {
+// The kinds of the four words of a scene, and of up to four words behind them.
+fn scene_and(a: Kind, b: Kind, c: Kind, d: Kind) -> [Kind; 10]
+    ensures { λ r. ⌜ r ≡ sceneAnd a b c d ⌝ }
+{
     let end = Kind::End;
+    let byte = Kind::Byte;
+    let short = Kind::Short;
+    [byte, short, short, byte, a, b, c, d, end, end]
+}
+
+// The kinds of the words that a letter takes.
+fn kinds_of(letter: u8) -> [Kind; 10]
+    ensures { λ r. ⌜ r ≡ kindsOf letter ⌝ }
+{
+    let end = Kind::End;
+    let byte = Kind::Byte;
+    let short = Kind::Short;
+    let long = Kind::Long;
+    let member = Kind::Member;
+    let flag = Kind::Flag;
+    let list = Kind::Length;
     match letter {
         b'N' => [Kind::Size, end, end, end, end, end, end, end, end, end],
-        b'A' => [
-            Kind::Byte,
-            Kind::Short,
-            Kind::Short,
-            Kind::Byte,
-            Kind::Long,
-            Kind::Member,
-            Kind::Digits,
-            Kind::Hex,
-            end,
-            end,
-        ],
-        b'S' => [
-            Kind::Byte,
-            Kind::Short,
-            Kind::Short,
-            Kind::Byte,
-            Kind::Member,
-            Kind::Hex,
-            end,
-            end,
-            end,
-            end,
-        ],
-        b'V' | b'R' => [
-            Kind::Byte,
-            Kind::Short,
-            Kind::Short,
-            Kind::Byte,
-            Kind::Member,
-            end,
-            end,
-            end,
-            end,
-            end,
-        ],
-        b'X' => [
-            Kind::Byte,
-            Kind::Short,
-            Kind::Short,
-            Kind::Member,
-            end,
-            end,
-            end,
-            end,
-            end,
-            end,
-        ],
+        b'A' => scene_and(long, member, Kind::Digits, Kind::Hex),
+        b'S' => scene_and(member, Kind::Hex, end, end),
+        b'V' | b'R' => scene_and(member, end, end, end),
+        b'X' => [byte, short, short, member, end, end, end, end, end, end],
         b'C' => [
-            Kind::Byte,
-            Kind::Short,
-            Kind::Byte,
-            Kind::Short,
-            Kind::Byte,
-            Kind::Short,
-            Kind::Byte,
-            Kind::Member,
-            Kind::Member,
+            byte,
+            short,
+            byte,
+            short,
+            byte,
+            short,
+            byte,
+            member,
+            member,
             end,
         ],
-        b'L' => [
-            Kind::Byte,
-            Kind::Short,
-            Kind::Short,
-            Kind::Byte,
-            Kind::Member,
-            Kind::Override,
-            Kind::Flag,
-            end,
-            end,
-            end,
-        ],
-        b'M' => [
-            Kind::Byte,
-            Kind::Short,
-            Kind::Short,
-            Kind::Member,
-            Kind::Length,
-            end,
-            end,
-            end,
-            end,
-            end,
-        ],
-        b'I' => [
-            Kind::Byte,
-            Kind::Short,
-            Kind::Flag,
-            end,
-            end,
-            end,
-            end,
-            end,
-            end,
-            end,
-        ],
-        b'T' => [Kind::Short, end, end, end, end, end, end, end, end, end],
-        b'F' => [Kind::Byte, end, end, end, end, end, end, end, end, end],
-        b'K' => [Kind::Long, end, end, end, end, end, end, end, end, end],
-        b'e' => [
-            Kind::Byte,
-            Kind::Short,
-            Kind::Short,
-            Kind::Byte,
-            Kind::Long,
-            Kind::Hex,
-            end,
-            end,
-            end,
-            end,
-        ],
-        b'r' => [
-            Kind::Byte,
-            Kind::Short,
-            Kind::Short,
-            Kind::Byte,
-            Kind::Flag,
-            end,
-            end,
-            end,
-            end,
-            end,
-        ],
+        b'L' => scene_and(member, Kind::Override, flag, end),
+        b'M' => [byte, short, short, member, list, end, end, end, end, end],
+        b'I' => [byte, short, flag, end, end, end, end, end, end, end],
+        b'T' => [short, end, end, end, end, end, end, end, end, end],
+        b'F' => [byte, end, end, end, end, end, end, end, end, end],
+        b'K' => [long, end, end, end, end, end, end, end, end, end],
+        b'e' => scene_and(long, Kind::Hex, end, end),
+        b'r' => scene_and(flag, end, end, end),
         _ => [end, end, end, end, end, end, end, end, end, end],
     }
 }
@@ -220,7 +143,9 @@ pub(crate) fn one_of(letter: u8, letters: &[u8]) -> bool
 }
 
 // Whether a letter is a command: of both programs, or of scenetrace alone.
-fn is_known(letter: u8, trace: bool) -> bool {
+fn is_known(letter: u8, trace: bool) -> bool
+    ensures { λ r. ⌜ r ≡ known letter trace ⌝ }
+{
     if one_of(letter, b"NASV") {
         return true;
     }
@@ -231,7 +156,9 @@ fn is_known(letter: u8, trace: bool) -> bool {
 }
 
 // The largest table of a program.
-fn most_scenes(trace: bool) -> u64 {
+fn most_scenes(trace: bool) -> u64
+    ensures { λ r. ⌜ r ≡ mostScenes trace ⌝ }
+{
     if trace {
         return Bounds::TRACE;
     }
@@ -239,7 +166,9 @@ fn most_scenes(trace: bool) -> u64 {
 }
 
 // A transition time, or none.
-fn transition(word: &[u8]) -> Word {
+fn transition(word: &[u8]) -> Word
+    ensures { λ r. ⌜ r ≡ overrideOf (now (word .entry)) ⌝ }
+{
     if check::same(word, b"-") {
         return Word::Value(Bounds::STORED);
     }
@@ -249,8 +178,20 @@ fn transition(word: &[u8]) -> Word {
     number(word, 0xFFFF_FFFF)
 }
 
-// Reads a word of a kind, and turns its bytes into those that it spells.
-fn read_word(word: &mut [u8], kind: Kind, trace: bool) -> Word {
+// The count of bytes that stand in the front of a word: no more than it has, so that what follows the word is not touched.
+fn front(word: Word, len: usize) -> Word
+    ensures { λ r. ⌜ r ≡ inFrontOf len word ⌝ }
+{
+    match word {
+        Word::Value(n) => Word::Value(least(n as usize, len) as u64),
+        Word::Wrong(reason) => Word::Wrong(reason),
+    }
+}
+
+// Reads a word of a kind, and turns its bytes into those that it spells, in its front: what follows the word does not matter.
+fn read_word(word: &mut [u8], kind: Kind, trace: bool) -> Word
+    ensures { λ r. ⌜ ((rest : List ℕ) → meaning kind r (now (word .exit) ++ rest) ≡ wordSays trace kind (now (word .entry))) ⌝ }
+{
     match kind {
         Kind::End => {
             if word.len() == 0 {
@@ -264,8 +205,14 @@ fn read_word(word: &mut [u8], kind: Kind, trace: bool) -> Word {
         Kind::Member => number(word, 2),
         Kind::Flag => number(word, 1),
         Kind::Size => number(word, most_scenes(trace)),
-        Kind::Digits => digits(word),
-        Kind::Hex => hex(word),
+        Kind::Digits => {
+            let count = digits(word);
+            front(count, word.len())
+        }
+        Kind::Hex => {
+            let count = hex(word);
+            front(count, word.len())
+        }
         Kind::Override => transition(word),
         Kind::Length => {
             if word.len() == 0 {
@@ -286,7 +233,7 @@ struct Reading {
 // Reads the next word from a position on.
 fn read_next(line: &mut [u8], at: usize, kind: Kind, trace: bool) -> Reading
     requires { ⌜ at ≤ length (now line) ⌝ }
-    ensures { λ r. ⌜ r .to ≤ length (now (line .entry)) ⌝ }
+    ensures { λ r. ⌜ ReadsNext trace kind (now (line .entry)) at (now (line .exit)) r ⌝ }
 {
     let span = next_word(line, at);
     let from = span.from;
@@ -298,6 +245,7 @@ fn read_next(line: &mut [u8], at: usize, kind: Kind, trace: bool) -> Reading
 // Reads the words behind a letter.
 fn read_words(line: &mut [u8], start: usize, letter: u8, trace: bool) -> Line
     requires { ⌜ start ≤ length (now line) ⌝ }
+    ensures { λ r. ⌜ saidOf r (now (line .exit)) ≡ wordsSay trace letter (kindsOf letter) (drop start (now (line .entry))) ⌝ }
 {
     let kinds = kinds_of(letter);
     let mut values = [0u64; 10];
@@ -328,7 +276,9 @@ fn read_words(line: &mut [u8], start: usize, letter: u8, trace: bool) -> Line
 }
 
 // Reads a line. Empty lines and lines that start with `#` say nothing.
-pub(crate) fn read_line(line: &mut [u8], trace: bool) -> Line {
+pub(crate) fn read_line(line: &mut [u8], trace: bool) -> Line
+    ensures { λ r. ⌜ saidOf r (now (line .exit)) ≡ lineSays trace (now (line .entry)) ⌝ }
+{
     let span = next_word(line, 0);
     let from = span.from;
     let to = span.to;

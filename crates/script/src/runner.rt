@@ -14,9 +14,8 @@ ghost use Rattle.scenes.specs.Table.{tableOf};
 ghost use Rattle.text.specs.Writing.{sheet, writes};
 ghost use Rattle.text.specs.Errors.{errorLine};
 ghost use Rattle.script.specs.Answers.{sizeLine, tableLines};
-ghost use Rattle.script.specs.declared.reader.Line.{Line};
 ghost use Rattle.script.specs.Calls.{bytesAt};
-ghost use Rattle.script.specs.Running.{newMachine, counted, sized, Ended, session, called, obeyed, runs};
+ghost use Rattle.script.specs.Running.{newMachine, counted, sized, Ended, session, called, obeyed, runLine};
 
 // What a run keeps from line to line: the head of the table, whether there is one, whether every call may be made or only those of
 // scenebench, and how many lines were read.
@@ -160,8 +159,7 @@ impl Machine {
 }
 
 // Runs one line, which is all that `line` holds, and answers it from a position of the output on. A line that is not understood is
-// answered by `error`, its number and a reason, and changes nothing. The words of the line are changed in place: there is a reading
-// of the line that, with the line as it is left, says all that the run leaves.
+// answered by `error`, its number and a reason, and changes nothing. The words of the line are changed in place.
 pub fn run_line(
     machine: Machine,
     keys: &mut [u64],
@@ -173,7 +171,7 @@ pub fn run_line(
     out: &mut [u8],
     at: usize,
 ) -> Ran
-    ensures { λ r. ⌜ ((read : Line) × (session (r .machine) (now (keys .exit)) (now (times .exit)) (now (fields .exit)) (now (records .exit)) (now (ids .exit)) (sheet (now (out .exit)) (r .at)) ≡ runs read (now (line .exit)) (session (counted machine) (now (keys .entry)) (now (times .entry)) (now (fields .entry)) (now (records .entry)) (now (ids .entry)) (sheet (now (out .entry)) at)))) ⌝ }
+    ensures { λ r. ⌜ session (r .machine) (now (keys .exit)) (now (times .exit)) (now (fields .exit)) (now (records .exit)) (now (ids .exit)) (sheet (now (out .exit)) (r .at)) ≡ runLine (now (line .entry)) (session (counted machine) (now (keys .entry)) (now (times .entry)) (now (fields .entry)) (now (records .entry)) (now (ids .entry)) (sheet (now (out .entry)) at)) ⌝ }
 {
     let m = machine.counted();
     let read = read_line(line, m.trace);

@@ -5,11 +5,11 @@ use mathlib.Core.Bool.{Bool, true, false, not, cond, _&&_}
 use mathlib.Core.List.{List, [], _∷_, _++_, map, append-assoc, append-nil, map-append}
 use native.Mathlib.Numerals.{add-one}
 use mathlib.Core.Logic.{⊎-elim}
-use native.Mathlib.Nat.{zero-add, le-of-suc-le-suc, eq-or-lt-of-le}
+use native.Mathlib.Nat.{zero-add, not-suc-le-zero, le-of-suc-le-suc, eq-or-lt-of-le}
 use native.Mathlib.Omega.{arith}
 use lib.Dec.{ltb, leb}
-use borrow.Author.Tests.{lt-ltb, le-ltb, le-leb, lt-leb}
-use lib.ListN.{length, take, drop, getD, set, length-append, length-set, length-drop, length-map, List·getD-append}
+use borrow.Author.Tests.{le-leb, lt-leb, leb-true, leb-false}
+use lib.ListN.{length, take, drop, take-append-drop, getD, set, length-append, length-set, length-drop, length-map, List·getD-append}
 use lib.Seq.{paste, paste-zero, paste-suc, drop-paste, length-paste, drop-at, drop-cons, take-length, length-take-le, take-suc-set, drop-set-lt, append-snoc, set-split, drop-drop, take-append-seam, drop-append-seam, getD-drop, getD-take}
 use Rattle.words.proofs.Tests.{and-intro, and-false}
 use Rattle.words.proofs.Below.{kept-none, kept-hit, kept-miss, kept-le, kept-under}
@@ -21,16 +21,14 @@ use Rattle.slots.specs.Slots.{Slots, keySound, countKeys, lengthAt, fiel
 
 -- ---- a sound key word, by two comparisons
 
-pub key-sound : (key : ℕ) → 2 ^ 40 ≤ key → key < 2 ^ 48 → keySound key ≡ true
-key-sound key low high =
-    and-intro (ltb key (2 ^ 48)) (leb 1 (fabricOf key)) (lt-ltb key (2 ^ 48) high) (le-leb 1 (fabricOf key) (omega arith))
-
-pub key-low : (key : ℕ) → key < 2 ^ 40 → keySound key ≡ false
-key-low key low =
-    ap (λ (b : Bool). ltb key (2 ^ 48) && b) (lt-leb 1 (fabricOf key) (omega arith)) ∙ and-false (ltb key (2 ^ 48))
-
-pub key-high : (key : ℕ) → 2 ^ 48 ≤ key → keySound key ≡ false
-key-high key high = ap (λ (b : Bool). b && leb 1 (fabricOf key)) (le-ltb key (2 ^ 48) high)
+-- the fabric is not 0 from 2^40 on
+pub key-tested : (key : ℕ) → (ltb key (2 ^ 48) && leb (2 ^ 40) key) ≡ keySound key
+key-tested key =
+    ap (λ (b : Bool). ltb key (2 ^ 48) && b)
+    ((elim (leb (2 ^ 40) key) as (λ b. leb (2 ^ 40) key ≡ b → b ≡ leb 1 (fabricOf key)) [
+      | true ↦ λ e. let h = leb-true (2 ^ 40) key e in sym (le-leb 1 (fabricOf key) (omega arith))
+      | false ↦ λ e. let h = leb-false (2 ^ 40) key e in sym (lt-leb 1 (fabricOf key) (omega arith))
+    ]) refl)
 
 -- ---- lists that are alike from a position on
 
@@ -293,3 +291,28 @@ module _ (keys : List ℕ) (r : KeyRange) where
   pub scenes-grow : (m n : ℕ) → m ≤ n → length (scenesInside keys m r) ≤ length (scenesInside keys n r)
   unfolding countKeys
   scenes-grow m n h = omega (arith, scenes-length m, scenes-length n, count-grows (λ i. within r (getD keys i 0)) m n h)
+
+-- ---- a copy to the same position
+
+set-same : (xs : List ℕ) (i : ℕ) → i < length xs → set xs i (getD xs i 0) ≡ xs
+set-same [] i h = absurd (not-suc-le-zero h)
+set-same (x ∷ xs) zero h = refl
+set-same (x ∷ xs) (suc i) h = ap (λ (ys : List ℕ). x ∷ ys) (set-same xs i (le-of-suc-le-suc h))
+
+overlay-same : (l : List ℕ) (b n : ℕ) → b + n ≤ length l → overlay b (part b n l) l ≡ l
+unfolding overlay
+overlay-same l b n h =
+    ap (λ (k : ℕ). (take b l ++ part b n l) ++ drop (b + k) l) (length-part l b n h)
+    ∙ append-assoc (take b l) (part b n l) (drop (b + n) l)
+    ∙ ap (λ (r : List ℕ). take b l ++ (part b n l ++ r)) (sym (drop-drop n b l))
+    ∙ ap (λ (r : List ℕ). take b l ++ r) (take-append-drop n (drop b l))
+    ∙ take-append-drop b l
+
+pub copy-same : (s : Slots) (i : ℕ) → i < length (s .keys) → i < length (s .times) → i * stride + stride ≤ length (s .fields) → copySlot i i s ≡ s
+unfolding copySlot
+copy-same s i k t f =
+    λ d. record {
+      keys = set-same (s .keys) i k d;
+      times = set-same (s .times) i t d;
+      fields = overlay-same (s .fields) (i * stride) stride f d;
+    }

@@ -8,14 +8,47 @@ ghost use mathlib.Core.Path.{_≡_};
 ghost use Prim.Native.Nat.{_+_, _*_, _<_, _≤_};
 ghost use lib.ListN.{length, getD};
 ghost use Rattle.words.specs.Constants.{stride, maxFields};
+ghost use lib.Dec.{eqb};
+ghost use Rattle.words.specs.Below.{anyBelow};
+ghost use Rattle.words.specs.declared.Found.the-variants.{Nothing};
 ghost use Rattle.slots.specs.Slots.{firstKey, countKeys, keysSound, lengthsSound, lengthAt, fieldsAt, overlay, slotsOf, putSlot, copySlot, lengthThen, part, outside, gathered, laid, scenesInside};
+
+// Whether one of the eight key words from a position on is this one.
+fn in_block(keys: &[u64], at: usize, key: u64) -> bool
+    requires { ⌜ at + 8 ≤ length (now keys) ⌝ }
+    ensures { λ r. ⌜ r ≡ anyBelow (λ j. eqb (getD (now (keys .entry)) (at + j) 0) key) 8 ⌝ }
+{
+    (keys[at] == key)
+        | (keys[at + 1] == key)
+        | (keys[at + 2] == key)
+        | (keys[at + 3] == key)
+        | (keys[at + 4] == key)
+        | (keys[at + 5] == key)
+        | (keys[at + 6] == key)
+        | (keys[at + 7] == key)
+}
+
+// A position of the first n, found in steps of eight, below which the key word does not stand.
+fn skip_blocks(keys: &[u64], n: usize, key: u64) -> usize
+    requires { ⌜ n ≤ length (now keys) ⌝ }
+    ensures { λ r. ⌜ (r ≤ n) × (firstKey (now (keys .entry)) r key ≡ Nothing) ⌝ }
+{
+    let mut i = 0;
+    while 8 <= n - i {
+        if in_block(keys, i, key) {
+            return i;
+        }
+        i += 8;
+    }
+    i
+}
 
 // The first of the first n positions that holds the key word.
 pub fn find(keys: &[u64], n: usize, key: u64) -> Found
     requires { ⌜ n ≤ length (now keys) ⌝ }
     ensures { λ r. ⌜ r ≡ firstKey (now (keys .entry)) n key ⌝ }
 {
-    let mut i = 0;
+    let mut i = skip_blocks(keys, n, key);
     while i < n {
         if keys[i] == key {
             return Found::At(i);
@@ -46,18 +79,15 @@ pub fn keys_sound(keys: &[u64], n: usize) -> bool
     requires { ⌜ n ≤ length (now keys) ⌝ }
     ensures { λ r. ⌜ r ≡ keysSound (now (keys .entry)) n ⌝ }
 {
+    let mut sound = true;
     let mut i = 0;
     while i < n {
         let key = keys[i];
-        if key < KeyWord::FABRIC {
-            return false;
-        }
-        if KeyWord::END <= key {
-            return false;
-        }
+        let fits = (key < KeyWord::END) & (KeyWord::FABRIC <= key);
+        sound = sound & fits;
         i += 1;
     }
-    true
+    sound
 }
 
 // Whether each of the first n entries has at most as many field bytes as there is room for.
@@ -65,14 +95,14 @@ pub fn lengths_sound(fields: &[u8], n: usize) -> bool
     requires { ⌜ n * stride ≤ length (now fields) ⌝ }
     ensures { λ r. ⌜ r ≡ lengthsSound (now (fields .entry)) n ⌝ }
 {
+    let mut sound = true;
     let mut i = 0;
     while i < n {
-        if Limits::MAX_EXT_FIELDS_LEN < fields[i * Slot::STRIDE] as usize {
-            return false;
-        }
+        let len = fields[i * Slot::STRIDE] as usize;
+        sound = sound & (len <= Limits::MAX_EXT_FIELDS_LEN);
         i += 1;
     }
-    true
+    sound
 }
 
 // The field bytes of the entry at a position, up to its length: a part of the lent slice.
@@ -143,9 +173,11 @@ pub fn copy_slot(keys: &mut [u64], times: &mut [u32], fields: &mut [u8], from: u
     requires { ⌜ from * stride + stride ≤ length (now fields) ⌝ }
     ensures { λ _. ⌜ slotsOf (now (keys .exit)) (now (times .exit)) (now (fields .exit)) ≡ copySlot from to (slotsOf (now (keys .entry)) (now (times .entry)) (now (fields .entry))) ⌝ }
 {
-    keys[to] = keys[from];
-    times[to] = times[from];
-    copy_bytes(fields, from * Slot::STRIDE, to * Slot::STRIDE);
+    if to < from {
+        keys[to] = keys[from];
+        times[to] = times[from];
+        copy_bytes(fields, from * Slot::STRIDE, to * Slot::STRIDE);
+    }
 }
 
 // Drops those of the first n entries whose key word lies in a range: the others move to the front, in order. How many they are.

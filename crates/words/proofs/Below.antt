@@ -1,7 +1,7 @@
 -- The laws of the positions below a count. Assumes nothing.
 use Prim.Native.Nat.{ℕ, zero, suc, _+_, _≤_, _<_}
-use mathlib.Core.Path.{_≡_, refl, sym, ap, _∙_}
-use mathlib.Core.Bool.{Bool, true, false, cond, false≢true}
+use mathlib.Core.Path.{_≡_, refl, sym, ap, ap₂, subst, _∙_}
+use mathlib.Core.Bool.{Bool, true, false, cond, _&&_, false≢true}
 use mathlib.Core.List.{List, [], _∷_, _++_}
 use mathlib.Core.Logic.{⊎-elim}
 use native.Mathlib.Numerals.{add-one}
@@ -11,7 +11,7 @@ use lib.ListN.{length, getD, length-append}
 use Rattle.words.specs.Below.{everyBelow, anyBelow, countBelow, keptBelow, firstBelow, orElse}
 use Rattle.words.specs.declared.Found.{Found}
 use Rattle.words.specs.declared.Found.the-variants.{At, Nothing}
-use Rattle.words.proofs.Tests.{and-intro, and-false, or-true, or-false}
+use Rattle.words.proofs.Tests.{and-intro, and-false, or-true, or-false, neither-left, neither-right}
 
 -- what holds of each element, and of one more behind them
 each-more : (P : ℕ → Type 0) (xs : List ℕ) (x : ℕ) → ((k : ℕ) → k < length xs → P (getD xs k 0)) → P x → (k : ℕ) → k < length (xs ++ (x ∷ [])) → P (getD (xs ++ (x ∷ [])) k 0)
@@ -35,6 +35,11 @@ module _ (p : ℕ → Bool) where
   pub every-more : (i : ℕ) → everyBelow p i ≡ true → p i ≡ true → everyBelow p (i + 1) ≡ true
   unfolding everyBelow
   every-more i h e = rw (add-one, h) e
+
+  -- a turn of a loop that tests every position
+  pub every-next : (i : ℕ) (b t : Bool) → b ≡ everyBelow p i → t ≡ p i → (b && t) ≡ everyBelow p (i + 1)
+  unfolding everyBelow
+  every-next i b t h e = rw (add-one) (ap₂ (λ (x y : Bool). x && y) h e)
 
   -- the loop that stops at i
   pub every-fails : (n i : ℕ) → i < n → p i ≡ false → everyBelow p n ≡ false
@@ -154,6 +159,14 @@ module _ (p : ℕ → Bool) where
   pub first-more : (i : ℕ) → firstBelow p i ≡ Nothing → p i ≡ false → firstBelow p (i + 1) ≡ Nothing
   unfolding firstBelow orElse
   first-more i h e = rw (add-one i, h, e)
+
+  -- a block of k positions from i on at which p does not hold
+  pub first-block : (i k : ℕ) → anyBelow (λ j. p (i + j)) k ≡ false → firstBelow p i ≡ Nothing → firstBelow p (i + k) ≡ Nothing
+  unfolding anyBelow
+  first-block i zero e h = subst (λ m. firstBelow p m ≡ Nothing) (omega arith) h
+  first-block i (suc k) e h =
+      let none = first-more (i + k) (first-block i k (neither-left _ (p (i + k)) e) h) (neither-right (anyBelow (λ j. p (i + j)) k) _ e) in
+      subst (λ m. firstBelow p m ≡ Nothing) (omega arith) none
 
   -- the loop that finds at i
   pub first-at : (n i : ℕ) → i < n → firstBelow p i ≡ Nothing → p i ≡ true → firstBelow p n ≡ At i

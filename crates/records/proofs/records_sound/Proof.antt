@@ -1,23 +1,22 @@
--- `records::records_sound` meets its contract: each word below i is sound. Assumes nothing.
+-- `records::records_sound` meets its contract: it has looked at each word below i. Assumes nothing.
 use Prim.Native.Nat.{_≤_, _-_}
-use mathlib.Core.Path.{_≡_, sym, _∙_}
-use mathlib.Core.Bool.{true}
+use mathlib.Core.Path.{_≡_, sym}
 use native.Mathlib.Omega.{arith}
 use borrow.Author.Needs.{needs}
-use Rattle.words.proofs.Below.{every-none, every-more, every-fails}
+use Rattle.words.proofs.Below.{every-none, every-next}
 use Rattle.records.specs.Records.{recordsSound}
 use Rattle.records.proofs.records_sound.Statement.{statement}
 use Rattle.records.proofs.records_sound.Tie as tie
 
 abbrev Inv-loop : tie.InvT-loop
-Inv-loop records n i₀ i = (i ≤ n) × (recordsSound records i ≡ true)
+Inv-loop records n sound₀ i₀ sound i = (i ≤ n) × (sound ≡ recordsSound records i)
 
 abbrev μ-loop : tie.MeasureT-loop
-μ-loop records n i₀ i = n - i
+μ-loop records n sound₀ i₀ sound i = n - i
 
 loop-holds : tie.Need-loop-holds Inv-loop μ-loop
 unfolding recordsSound
-loop-holds c = (omega arith, every-none _)
+loop-holds c = (omega arith, sym (every-none _))
 
 mul-is-sound : tie.Need-mul-is-sound Inv-loop μ-loop
 mul-is-sound c = omega arith
@@ -36,17 +35,13 @@ loop-less c = omega arith
 
 loop-again : tie.Need-loop-again Inv-loop μ-loop
 unfolding recordsSound
-loop-again c = (omega arith, every-more _ _ (c .before .before .before .before .loop .inv .1) (sym (c .before .is-sound .ensures) ∙ c .if1 .taken))
+loop-again c = (omega arith, every-next _ _ _ _ (c .before .before .before .loop .inv .1) (c .is-sound .ensures))
 
 returns : tie.Need-returns Inv-loop μ-loop
-unfolding recordsSound
-returns c = sym (every-fails _ _ _ (c .before .before .before .loop-test .taken) (sym (c .before .is-sound .ensures) ∙ c .if1 .left))
-
-returns-2 : tie.Need-returns-2 Inv-loop μ-loop
-returns-2 c =
+returns c =
     let at = c .before in
     let e : at .loop .i ≡ at .before .before .args .n = omega arith in
-    rw (← e) (sym (at .loop .inv .1))
+    rw (← e) (at .loop .inv .1)
 
 pub records-sound-spec : {M : Type 1} → statement M
 records-sound-spec =
@@ -61,5 +56,4 @@ records-sound-spec =
     add-i
     loop-less
     loop-again
-    returns
-    returns-2)
+    returns)

@@ -1,7 +1,10 @@
 -- `slots::copy_slot` meets its contract. Assumes nothing.
-use mathlib.Core.Path.{ap}
-use Rattle.slots.specs.Slots.{copySlot, slotsOf}
+use Prim.Native.Nat.{ℕ}
+use mathlib.Core.Path.{_≡_, sym, ap, _∙_}
+use native.Mathlib.Omega.{arith}
 use borrow.Author.Needs.{needs}
+use Rattle.slots.specs.Slots.{slotsOf, copySlot}
+use Rattle.slots.proofs.Laws.{copy-same}
 use Rattle.slots.proofs.copy_slot.Statement.{statement}
 use Rattle.slots.proofs.copy_slot.Tie as tie
 
@@ -51,6 +54,13 @@ returns : tie.Need-returns
 unfolding copySlot
 returns c = ap (slotsOf _ _) (c .before .before .copy-bytes .ensures)
 
+returns-2 : tie.Need-returns-2
+returns-2 c =
+    let a = c .before .before .before .before .args in
+    let s = slotsOf (a .keys .now) (a .times .now) (a .fields .now) in
+    let e : a .to ≡ a .from = omega arith in
+    sym (ap (λ (t : ℕ). copySlot (a .from) t s) e ∙ copy-same s (a .from) (omega arith) (omega arith) (omega arith))
+
 pub copy-slot-spec : {M : Type 1} → statement M
 copy-slot-spec =
     tie.close
@@ -69,4 +79,5 @@ copy-slot-spec =
     same-length
     same-length-2
     same-length-3
-    returns)
+    returns
+    returns-2)

@@ -3,7 +3,7 @@ use Prim.Native.Nat.{_≤_, _-_}
 use mathlib.Core.Path.{_≡_, sym}
 use native.Mathlib.Omega.{arith}
 use borrow.Author.Tests.{eq-eqb, ne-eqb}
-use Rattle.words.proofs.Below.{first-none, first-more, first-at}
+use Rattle.words.proofs.Below.{first-more, first-at}
 use Rattle.words.specs.declared.Found.the-variants.{Nothing}
 use Rattle.slots.specs.Slots.{firstKey}
 use Rattle.slots.proofs.find.Statement.{statement}
@@ -15,9 +15,11 @@ Inv-loop keys n key i₀ i = (i ≤ n) × (firstKey keys i key ≡ Nothing)
 abbrev μ-loop : tie.MeasureT-loop
 μ-loop keys n key i₀ i = n - i
 
+skip-blocks-requires : tie.Need-skip-blocks-requires Inv-loop μ-loop
+skip-blocks-requires c κs = omega arith
+
 loop-holds : tie.Need-loop-holds Inv-loop μ-loop
-unfolding firstKey
-loop-holds c = (omega arith, first-none _)
+loop-holds c = c .skip-blocks .ensures
 
 mul-if1 : tie.Need-mul-if1 Inv-loop μ-loop
 mul-if1 c = omega arith
@@ -30,7 +32,7 @@ unfolding firstKey
 returns c =
     let turn = c .before .before in
     let at = turn .before in
-    sym (first-at _ (at .before .args .n) (at .loop .i) (turn .loop-test .taken) (at .loop .inv .1) (eq-eqb _ _ (c .if1 .taken)))
+    sym (first-at _ (at .before .before .before .args .n) (at .loop .i) (turn .loop-test .taken) (at .loop .inv .1) (eq-eqb _ _ (c .if1 .taken)))
 
 add-i : tie.Need-add-i Inv-loop μ-loop
 add-i c = omega arith
@@ -45,7 +47,7 @@ loop-again c = (omega arith, first-more _ _ (c .before .before .before .loop .in
 returns-2 : tie.Need-returns-2 Inv-loop μ-loop
 returns-2 c =
     let at = c .before in
-    let e : at .loop .i ≡ at .before .args .n = omega arith in
+    let e : at .loop .i ≡ at .before .before .before .args .n = omega arith in
     rw (← e) (sym (at .loop .inv .1))
 
 pub find-spec : {M : Type 1} → statement M
@@ -54,6 +56,7 @@ find-spec =
     (tie.spec
     Inv-loop
     μ-loop
+    skip-blocks-requires
     loop-holds
     mul-if1
     shared-slice-read-if1

@@ -1,40 +1,31 @@
--- `slots::lengths_sound` meets its contract: each length below i is sound. Assumes nothing.
+-- `slots::lengths_sound` meets its contract: it has looked at each length below i. Assumes nothing.
 use Prim.Native.Nat.{_≤_, _*_, _-_}
-use mathlib.Core.Path.{_≡_, sym}
-use mathlib.Core.Bool.{true}
+use mathlib.Core.Path.{_≡_, refl, sym}
 use native.Mathlib.Omega.{arith}
-use borrow.Author.Tests.{le-leb, lt-leb}
-use Rattle.words.proofs.Below.{every-none, every-more, every-fails}
+use Rattle.words.proofs.Below.{every-none, every-next}
 use Rattle.words.specs.Constants.{stride}
 use Rattle.slots.specs.Slots.{lengthsSound}
 use Rattle.slots.proofs.lengths_sound.Statement.{statement}
 use Rattle.slots.proofs.lengths_sound.Tie as tie
 
 abbrev Inv-loop : tie.InvT-loop
-Inv-loop fields n i₀ i = (i ≤ n) × (lengthsSound fields i ≡ true)
+Inv-loop fields n sound₀ i₀ sound i = (i ≤ n) × (sound ≡ lengthsSound fields i)
 
 abbrev μ-loop : tie.MeasureT-loop
-μ-loop fields n i₀ i = n - i
+μ-loop fields n sound₀ i₀ sound i = n - i
 
 loop-holds : tie.Need-loop-holds Inv-loop μ-loop
 unfolding lengthsSound
-loop-holds c = (omega arith, every-none _)
+loop-holds c = (omega arith, sym (every-none _))
 
-mul-if1 : tie.Need-mul-if1 Inv-loop μ-loop
-mul-if1 c = omega arith
+mul-len : tie.Need-mul-len Inv-loop μ-loop
+mul-len c = omega arith
 
-shared-slice-read-if1 : tie.Need-shared-slice-read-if1 Inv-loop μ-loop
-shared-slice-read-if1 c = omega arith
+shared-slice-read-len : tie.Need-shared-slice-read-len Inv-loop μ-loop
+shared-slice-read-len c = omega arith
 
-cast-if1 : tie.Need-cast-if1 Inv-loop μ-loop
-cast-if1 c = omega (arith, c .shared-slice-known .given (c .before .before .loop .i * stride))
-
-returns : tie.Need-returns Inv-loop μ-loop
-unfolding lengthsSound
-returns c =
-    let turn = c .before .before in
-    let at = turn .before in
-    sym (every-fails _ (at .before .args .n) (at .loop .i) (turn .loop-test .taken) (lt-leb _ _ (c .if1 .taken)))
+cast-len : tie.Need-cast-len Inv-loop μ-loop
+cast-len c = omega (arith, c .shared-slice-known .given (c .before .before .loop .i * stride))
 
 add-i : tie.Need-add-i Inv-loop μ-loop
 add-i c = omega arith
@@ -44,13 +35,13 @@ loop-less c = omega arith
 
 loop-again : tie.Need-loop-again Inv-loop μ-loop
 unfolding lengthsSound
-loop-again c = (omega arith, every-more _ _ (c .before .before .before .loop .inv .1) (le-leb _ _ (c .if1 .left)))
+loop-again c = (omega arith, every-next _ _ _ _ (c .before .before .loop .inv .1) refl)
 
-returns-2 : tie.Need-returns-2 Inv-loop μ-loop
-returns-2 c =
+returns : tie.Need-returns Inv-loop μ-loop
+returns c =
     let at = c .before in
     let e : at .loop .i ≡ at .before .args .n = omega arith in
-    rw (← e) (sym (at .loop .inv .1))
+    rw (← e) (at .loop .inv .1)
 
 pub lengths-sound-spec : {M : Type 1} → statement M
 lengths-sound-spec =
@@ -59,11 +50,10 @@ lengths-sound-spec =
     Inv-loop
     μ-loop
     loop-holds
-    mul-if1
-    shared-slice-read-if1
-    cast-if1
-    returns
+    mul-len
+    shared-slice-read-len
+    cast-len
     add-i
     loop-less
     loop-again
-    returns-2)
+    returns)

@@ -1,9 +1,9 @@
 -- `script::calls::add` meets its contract. Assumes nothing.
-use Rattle.scenes.specs.Table.{Table, tableOf}
-use Rattle.script.proofs.CallLaws.{plain-done}
-use Rattle.script.specs.Calls.{plain, add}
-use Rattle.scenes.specs.Commands.{addScene}
 use mathlib.Core.Path.{_∙_}
+use Rattle.scenes.specs.Table.{Table, tableOf}
+use Rattle.scenes.specs.Commands.{addScene}
+use Rattle.script.specs.Calls.{plain, add}
+use Rattle.script.proofs.CallLaws.{plain-done}
 use borrow.Author.Needs.{needs}
 use Rattle.script.proofs.calls.add.Statement.{statement}
 use Rattle.script.proofs.calls.add.Tie as tie

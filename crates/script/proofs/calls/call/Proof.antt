@@ -1,6 +1,6 @@
 -- `script::calls::call` meets its contract. Assumes nothing.
-use Rattle.script.specs.Calls.{Done, calledOf, call}
 use mathlib.Core.Path.{sym, ap, _∙_}
+use Rattle.script.specs.Calls.{Done, calledOf, call}
 use borrow.Author.Needs.{needs}
 use Rattle.script.proofs.calls.call.Statement.{statement}
 use Rattle.script.proofs.calls.call.Tie as tie

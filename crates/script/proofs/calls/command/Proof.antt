@@ -1,6 +1,6 @@
 -- `script::calls::command` meets its contract. Assumes nothing.
-use Rattle.script.specs.Calls.{command}
 use borrow.Author.Tests.{ne-eqb}
+use Rattle.script.specs.Calls.{command}
 use borrow.Author.Needs.{needs}
 use Rattle.script.proofs.calls.command.Statement.{statement}
 use Rattle.script.proofs.calls.command.Tie as tie

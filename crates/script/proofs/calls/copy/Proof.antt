@@ -1,9 +1,9 @@
 -- `script::calls::copy` meets its contract. Assumes nothing.
-use Rattle.scenes.specs.Table.{Table, tableOf}
-use Rattle.script.proofs.CallLaws.{plain-done}
-use Rattle.script.specs.Calls.{plain, copy}
-use Rattle.scenes.specs.Copy.{copyScene}
 use mathlib.Core.Path.{_∙_}
+use Rattle.scenes.specs.Table.{Table, tableOf}
+use Rattle.scenes.specs.Copy.{copyScene}
+use Rattle.script.specs.Calls.{plain, copy}
+use Rattle.script.proofs.CallLaws.{plain-done}
 use borrow.Author.Needs.{needs}
 use Rattle.script.proofs.calls.copy.Statement.{statement}
 use Rattle.script.proofs.calls.copy.Tie as tie

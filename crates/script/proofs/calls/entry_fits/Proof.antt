@@ -1,10 +1,10 @@
 -- `script::calls::entry_fits` meets its contract. Assumes nothing.
-use Rattle.script.proofs.CallLaws.{nonzero}
-use Rattle.script.specs.Calls.{entryFits}
+use mathlib.Core.Path.{sym}
+use borrow.Author.Tests.{le-leb, lt-leb, le-ltb, lt-ltb}
 use Rattle.words.proofs.Tests.{and-true}
 use Rattle.words.specs.Conditions.{allOf}
-use borrow.Author.Tests.{le-leb, lt-leb, le-ltb, lt-ltb}
-use mathlib.Core.Path.{sym}
+use Rattle.script.specs.Calls.{entryFits}
+use Rattle.script.proofs.CallLaws.{nonzero}
 use borrow.Author.Needs.{needs}
 use Rattle.script.proofs.calls.entry_fits.Statement.{statement}
 use Rattle.script.proofs.calls.entry_fits.Tie as tie

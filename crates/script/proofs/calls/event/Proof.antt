@@ -1,10 +1,10 @@
 -- `script::calls::event` meets its contract. Assumes nothing.
-use Rattle.scenes.specs.Table.{Table, tableOf}
-use Rattle.script.proofs.CallLaws.{plain-done}
-use Rattle.script.specs.Calls.{plain, event}
-use Rattle.scenes.specs.Lifecycle.{scenableAttributeChanged, removeForFabric}
-use borrow.Author.Tests.{ne-eqb}
 use mathlib.Core.Path.{_∙_}
+use borrow.Author.Tests.{ne-eqb}
+use Rattle.scenes.specs.Table.{Table, tableOf}
+use Rattle.scenes.specs.Lifecycle.{scenableAttributeChanged, removeForFabric}
+use Rattle.script.specs.Calls.{plain, event}
+use Rattle.script.proofs.CallLaws.{plain-done}
 use borrow.Author.Needs.{needs}
 use Rattle.script.proofs.calls.event.Statement.{statement}
 use Rattle.script.proofs.calls.event.Tie as tie

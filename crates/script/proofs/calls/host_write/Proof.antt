@@ -1,6 +1,6 @@
 -- `script::calls::host_write` meets its contract. Assumes nothing.
-use Rattle.script.specs.Calls.{hostWrite}
 use borrow.Author.Tests.{ne-eqb}
+use Rattle.script.specs.Calls.{hostWrite}
 use borrow.Author.Needs.{needs}
 use Rattle.script.proofs.calls.host_write.Statement.{statement}
 use Rattle.script.proofs.calls.host_write.Tie as tie

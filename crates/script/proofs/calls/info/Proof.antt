@@ -1,11 +1,10 @@
 -- `script::calls::info` meets its contract. Assumes nothing.
-use Rattle.scenes.specs.Table.{Table, tableOf}
-use Rattle.script.specs.Calls.{valueAt}
-use lib.Dec.{eqb}
-use Rattle.script.proofs.CallLaws.{informed-done}
-use Rattle.script.specs.Calls.{info}
-use Rattle.scenes.specs.Reads.{readFabricSceneInfo}
 use mathlib.Core.Path.{_∙_}
+use lib.Dec.{eqb}
+use Rattle.scenes.specs.Table.{Table, tableOf}
+use Rattle.scenes.specs.Reads.{readFabricSceneInfo}
+use Rattle.script.specs.Calls.{valueAt, info}
+use Rattle.script.proofs.CallLaws.{informed-done}
 use borrow.Author.Needs.{needs}
 use Rattle.script.proofs.calls.info.Statement.{statement}
 use Rattle.script.proofs.calls.info.Tie as tie

@@ -1,9 +1,9 @@
 -- `script::calls::list` meets its contract. Assumes nothing.
-use Rattle.scenes.specs.Table.{Table, tableOf}
-use Rattle.script.proofs.CallLaws.{listed-done, list-read, list-refused}
-use Rattle.script.specs.Calls.{list}
-use Rattle.scenes.specs.Reads.{getSceneMembership}
 use mathlib.Core.Path.{_∙_}
+use Rattle.scenes.specs.Table.{Table, tableOf}
+use Rattle.scenes.specs.Reads.{getSceneMembership}
+use Rattle.script.specs.Calls.{list}
+use Rattle.script.proofs.CallLaws.{listed-done, list-read, list-refused}
 use borrow.Author.Needs.{needs}
 use Rattle.script.proofs.calls.list.Statement.{statement}
 use Rattle.script.proofs.calls.list.Tie as tie

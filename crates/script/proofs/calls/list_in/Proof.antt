@@ -1,11 +1,10 @@
 -- `script::calls::list_in` is safe and ends. Assumes nothing.
-use Rattle.script.proofs.CallLaws.{list-all}
-use Rattle.script.specs.Calls.{valueAt, Called, calledOf, listIn}
-use lib.ListN.{drop}
 use mathlib.Core.List.{_++_}
-use mathlib.Core.Path.{ap, _∙_}
-use mathlib.Core.Path.{sym}
+use mathlib.Core.Path.{ap, _∙_, sym}
+use lib.ListN.{drop}
 use lib.Seq.{length-take-le}
+use Rattle.script.specs.Calls.{valueAt, Called, calledOf, listIn}
+use Rattle.script.proofs.CallLaws.{list-all}
 use borrow.Author.Needs.{needs}
 use Rattle.script.proofs.calls.list_in.Statement.{statement}
 use Rattle.script.proofs.calls.list_in.Tie as tie

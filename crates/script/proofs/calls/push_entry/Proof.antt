@@ -1,15 +1,15 @@
 -- `script::calls::push_entry` meets its contract. Assumes nothing.
-use Rattle.script.proofs.CallLaws.{entry-pushed, entry-refused, entry-test, entry-room}
-use Rattle.script.specs.Calls.{doneOf, raw, pushEntry}
-use Rattle.script.specs.declared.calls.Answer.{Answer}
-use Rattle.scenes.specs.Change.{append}
-use Rattle.scenes.specs.Table.{tableOf, withEntryCount}
-use Rattle.slots.specs.Slots.{slotsOf, putSlot}
+use Prim.Native.Nat.{_+_}
+use mathlib.Core.Path.{sym, ap, _∙_}
+use native.Mathlib.Omega.{arith}
 use Rattle.words.specs.Words.{wordOf}
 use Rattle.words.specs.Constants.{success}
-use native.Mathlib.Omega.{arith}
-use mathlib.Core.Path.{sym, ap, _∙_}
-use Prim.Native.Nat.{_+_}
+use Rattle.slots.specs.Slots.{slotsOf, putSlot}
+use Rattle.scenes.specs.Change.{append}
+use Rattle.scenes.specs.Table.{tableOf, withEntryCount}
+use Rattle.script.specs.declared.calls.Answer.{Answer}
+use Rattle.script.specs.Calls.{doneOf, raw}
+use Rattle.script.proofs.CallLaws.{entry-pushed, entry-refused, entry-test, entry-room}
 use borrow.Author.Needs.{needs}
 use Rattle.script.proofs.calls.push_entry.Statement.{statement}
 use Rattle.script.proofs.calls.push_entry.Tie as tie

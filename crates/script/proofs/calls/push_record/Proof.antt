@@ -1,15 +1,12 @@
 -- `script::calls::push_record` meets its contract. Assumes nothing.
-use Rattle.script.specs.Calls.{valueAt, raw, recordWord, appendRecord}
-use Rattle.script.proofs.CallLaws.{record-pushed, record-refused, record-test, record-room}
-use Rattle.scenes.specs.Table.{withCurrent}
-use Rattle.words.specs.Constants.{success}
-use lib.ListN.{set}
-use Rattle.script.specs.Calls.{doneOf, recordFits, pushRecord}
-use Rattle.script.specs.declared.calls.Answer.{Answer}
-use Rattle.scenes.specs.Table.{tableOf}
-use Rattle.words.specs.declared.SceneKey.{SceneKey}
-use lib.ListN.{length}
 use mathlib.Core.Path.{sym, ap, _∙_}
+use lib.ListN.{set}
+use Rattle.words.specs.Constants.{success}
+use Rattle.words.specs.declared.SceneKey.{SceneKey}
+use Rattle.scenes.specs.Table.{withCurrent, tableOf}
+use Rattle.script.specs.declared.calls.Answer.{Answer}
+use Rattle.script.specs.Calls.{valueAt, raw, recordWord, appendRecord, doneOf}
+use Rattle.script.proofs.CallLaws.{record-pushed, record-refused, record-test, record-room}
 use borrow.Author.Needs.{needs}
 use Rattle.script.proofs.calls.push_record.Statement.{statement}
 use Rattle.script.proofs.calls.push_record.Tie as tie

@@ -1,7 +1,7 @@
 -- `script::calls::query` meets its contract. Assumes nothing.
-use Rattle.script.specs.Calls.{Done, calledOf, query}
-use borrow.Author.Tests.{ne-eqb}
 use mathlib.Core.Path.{ap}
+use borrow.Author.Tests.{ne-eqb}
+use Rattle.script.specs.Calls.{Done, calledOf, query}
 use borrow.Author.Needs.{needs}
 use Rattle.script.proofs.calls.query.Statement.{statement}
 use Rattle.script.proofs.calls.query.Tie as tie

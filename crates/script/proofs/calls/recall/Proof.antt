@@ -1,10 +1,10 @@
 -- `script::calls::recall` meets its contract. Assumes nothing.
+use mathlib.Core.Path.{_∙_}
 use Rattle.scenes.specs.Table.{Table, tableOf}
-use Rattle.script.proofs.CallLaws.{recalled-done}
-use Rattle.script.specs.Calls.{recall}
 use Rattle.scenes.specs.Reads.{recallLookup}
 use Rattle.scenes.specs.Commands.{recallScene}
-use mathlib.Core.Path.{_∙_}
+use Rattle.script.specs.Calls.{recall}
+use Rattle.script.proofs.CallLaws.{recalled-done}
 use borrow.Author.Needs.{needs}
 use Rattle.script.proofs.calls.recall.Statement.{statement}
 use Rattle.script.proofs.calls.recall.Tie as tie

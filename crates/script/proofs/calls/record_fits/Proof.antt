@@ -1,10 +1,10 @@
 -- `script::calls::record_fits` meets its contract. Assumes nothing.
-use Rattle.script.proofs.CallLaws.{nonzero}
-use Rattle.script.specs.Calls.{recordFits}
+use mathlib.Core.Path.{sym}
+use borrow.Author.Tests.{le-ltb, lt-ltb}
 use Rattle.words.proofs.Tests.{and-true}
 use Rattle.words.specs.Conditions.{allOf}
-use borrow.Author.Tests.{le-ltb, lt-ltb}
-use mathlib.Core.Path.{sym}
+use Rattle.script.specs.Calls.{recordFits}
+use Rattle.script.proofs.CallLaws.{nonzero}
 use Rattle.script.proofs.calls.record_fits.Statement.{statement}
 use Rattle.script.proofs.calls.record_fits.Tie as tie
 

@@ -1,9 +1,9 @@
 -- `script::calls::remove` meets its contract. Assumes nothing.
-use Rattle.scenes.specs.Table.{Table, tableOf}
-use Rattle.script.proofs.CallLaws.{plain-done}
-use Rattle.script.specs.Calls.{plain, remove}
-use Rattle.scenes.specs.Commands.{removeScene}
 use mathlib.Core.Path.{_∙_}
+use Rattle.scenes.specs.Table.{Table, tableOf}
+use Rattle.scenes.specs.Commands.{removeScene}
+use Rattle.script.specs.Calls.{plain, remove}
+use Rattle.script.proofs.CallLaws.{plain-done}
 use borrow.Author.Needs.{needs}
 use Rattle.script.proofs.calls.remove.Statement.{statement}
 use Rattle.script.proofs.calls.remove.Tie as tie

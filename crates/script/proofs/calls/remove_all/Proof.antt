@@ -1,9 +1,9 @@
 -- `script::calls::remove_all` meets its contract. Assumes nothing.
-use Rattle.scenes.specs.Table.{Table, tableOf}
-use Rattle.script.proofs.CallLaws.{plain-done}
-use Rattle.script.specs.Calls.{plain, removeAll}
-use Rattle.scenes.specs.Commands.{removeAllScenes}
 use mathlib.Core.Path.{_∙_}
+use Rattle.scenes.specs.Table.{Table, tableOf}
+use Rattle.scenes.specs.Commands.{removeAllScenes}
+use Rattle.script.specs.Calls.{plain, removeAll}
+use Rattle.script.proofs.CallLaws.{plain-done}
 use borrow.Author.Needs.{needs}
 use Rattle.script.proofs.calls.remove_all.Statement.{statement}
 use Rattle.script.proofs.calls.remove_all.Tie as tie

@@ -1,9 +1,9 @@
 -- `script::calls::set_version` meets its contract. Assumes nothing.
-use Rattle.script.specs.Calls.{doneOf, raw, withVersion, setVersion}
-use Rattle.script.specs.declared.calls.Answer.{Answer}
-use Rattle.scenes.specs.Table.{tableOf}
-use Rattle.words.specs.Constants.{success}
 use mathlib.Core.Path.{ap, _∙_}
+use Rattle.words.specs.Constants.{success}
+use Rattle.scenes.specs.Table.{tableOf}
+use Rattle.script.specs.declared.calls.Answer.{Answer}
+use Rattle.script.specs.Calls.{doneOf, raw, withVersion, setVersion}
 use borrow.Author.Needs.{needs}
 use Rattle.script.proofs.calls.set_version.Statement.{statement}
 use Rattle.script.proofs.calls.set_version.Tie as tie

@@ -1,9 +1,9 @@
 -- `script::calls::store` meets its contract. Assumes nothing.
-use Rattle.scenes.specs.Table.{Table, tableOf}
-use Rattle.script.proofs.CallLaws.{plain-done}
-use Rattle.script.specs.Calls.{plain, store}
-use Rattle.scenes.specs.Commands.{storeScene}
 use mathlib.Core.Path.{_∙_}
+use Rattle.scenes.specs.Table.{Table, tableOf}
+use Rattle.scenes.specs.Commands.{storeScene}
+use Rattle.script.specs.Calls.{plain, store}
+use Rattle.script.proofs.CallLaws.{plain-done}
 use borrow.Author.Needs.{needs}
 use Rattle.script.proofs.calls.store.Statement.{statement}
 use Rattle.script.proofs.calls.store.Tie as tie

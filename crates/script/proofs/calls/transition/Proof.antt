@@ -1,7 +1,7 @@
 -- `script::calls::transition` meets its contract. Assumes nothing.
-use Rattle.scenes.specs.declared.Transition.the-variants.{Given}
-use borrow.Author.Tests.{ne-eqb}
 use mathlib.Core.Path.{ap}
+use borrow.Author.Tests.{ne-eqb}
+use Rattle.scenes.specs.declared.Transition.the-variants.{Given}
 use borrow.Author.Needs.{needs}
 use Rattle.script.proofs.calls.transition.Statement.{statement}
 use Rattle.script.proofs.calls.transition.Tie as tie

@@ -1,9 +1,9 @@
 -- `script::calls::view` meets its contract. Assumes nothing.
-use Rattle.scenes.specs.Table.{Table, tableOf}
-use Rattle.script.proofs.CallLaws.{viewed-done}
-use Rattle.script.specs.Calls.{view}
-use Rattle.scenes.specs.Reads.{viewScene}
 use mathlib.Core.Path.{_∙_}
+use Rattle.scenes.specs.Table.{Table, tableOf}
+use Rattle.scenes.specs.Reads.{viewScene}
+use Rattle.script.specs.Calls.{view}
+use Rattle.script.proofs.CallLaws.{viewed-done}
 use borrow.Author.Needs.{needs}
 use Rattle.script.proofs.calls.view.Statement.{statement}
 use Rattle.script.proofs.calls.view.Tie as tie

@@ -3,7 +3,7 @@ use Prim.Native.Nat.{_-_}
 use mathlib.Core.Path.{_≡_, refl, sym, _∙_}
 use native.Mathlib.Omega.{arith}
 use lib.ListN.{length, drop}
-use Rattle.script.specs.Calls.{oneOf}
+use Rattle.script.specs.Lines.{oneOf}
 use Rattle.script.proofs.Letters.{of-found, of-next, of-end}
 use Rattle.script.proofs.reader.one_of.Statement.{statement}
 use Rattle.script.proofs.reader.one_of.Tie as tie

@@ -1,7 +1,12 @@
 -- `script::reader::read_next` meets its contract. Assumes nothing.
 use Prim.Native.Nat.{_-_}
-use borrow.Rule.Slice.PartMut.{same-len-mid}
+use mathlib.Core.Path.{ap, _∙_}
+use native.Mathlib.Omega.{arith}
+use lib.ListN.{drop}
+use borrow.Rule.Slice.PartMut.{same-len-mid, mid-len, take-put, drop-put}
 use Rattle.text.proofs.Reading.{word-start, word-end}
+use Rattle.script.specs.Lines.{meaning, wordSays}
+use Rattle.script.proofs.LineLaws.{word-from, word-is, word-rest, later-word}
 use borrow.Author.Needs.{needs}
 use Rattle.script.proofs.reader.read_next.Statement.{statement}
 use Rattle.script.proofs.reader.read_next.Tie as tie
@@ -27,7 +32,26 @@ same-length c =
     same-len-mid (r .from) (r .to - r .from) (c .before .before .before .before .before .before .before .args .line .now) (c .before .before .read-word .last .0) (c .before .before .read-word .kept .0)
 
 returns : tie.Need-returns
-returns c = word-end _ _ _ (c .before .before .before .before .next-word .ensures) (c .before .before .before .before .before .before .before .pre)
+returns c =
+    let a = c .before .before .before .before .before .before .before .args in
+    let line = a .line .now in
+    let w = c .before .before .before .before .next-word .result in
+    let e = c .before .before .before .before .next-word .ensures in
+    let after = c .before .before .read-word .last .0 in
+    let o = word-start line (a .at) w e in
+    let h = word-end line (a .at) w e (c .before .before .before .before .before .before .before .pre) in
+    let l = c .before .before .read-word .kept .0 ∙ mid-len (w .from) (w .to) line h in
+    record {
+      from = word-from line (a .at) w e;
+      order = o;
+      within = h;
+      before = take-put (w .from) (w .to - w .from) line after (omega arith);
+      rest = drop-put (w .from) (w .to) line after o h l ∙ word-rest line (a .at) w e;
+      says = λ later q.
+          ap (meaning (a .kind) (c .before .before .read-word .result)) (later-word (w .from) (w .to) line after o h l later q)
+          ∙ c .before .before .read-word .ensures (drop (w .to) later)
+          ∙ ap (wordSays (a .trace) (a .kind)) (word-is line (a .at) w e);
+    }
 
 pub read-next-spec : {M : Type 1} → statement M
 read-next-spec =

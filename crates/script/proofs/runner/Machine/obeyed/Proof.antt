@@ -1,6 +1,6 @@
 -- `script::runner::Machine::obeyed` meets its contract. Assumes nothing.
-use Rattle.script.proofs.RunLaws.{ended, obeys-size, obeys-none, obeys-table, obeys-call}
 use mathlib.Core.Path.{_∙_}
+use Rattle.script.proofs.RunLaws.{ended, obeys-size, obeys-none, obeys-table, obeys-call}
 use borrow.Author.Needs.{needs}
 use Rattle.script.proofs.runner.Machine.obeyed.Statement.{statement}
 use Rattle.script.proofs.runner.Machine.obeyed.Tie as tie

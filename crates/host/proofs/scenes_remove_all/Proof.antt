@@ -1,0 +1,37 @@
+-- `host::scenes_remove_all` meets its contract. Assumes nothing.
+use borrow.Author.Needs.{needs}
+use Rattle.host.proofs.scenes_remove_all.Statement.{statement}
+use Rattle.host.proofs.scenes_remove_all.Tie as tie
+
+membership-requires : tie.Need-membership-requires
+membership-requires c κs = search needs
+
+remove-all-scenes-requires : tie.Need-remove-all-scenes-requires
+remove-all-scenes-requires c κs = search needs
+
+same-length : tie.Need-same-length
+same-length c = search needs
+
+same-length-2 : tie.Need-same-length-2
+same-length-2 c = search needs
+
+same-length-3 : tie.Need-same-length-3
+same-length-3 c = search needs
+
+same-length-4 : tie.Need-same-length-4
+same-length-4 c = search needs
+
+returns : tie.Need-returns
+returns c = let d = c .before .before .before .before .before .before .before .before in rw (← d .before .membership .ensures) (d .remove-all-scenes .ensures)
+
+pub scenes-remove-all-spec : {M : Type 1} → statement M
+scenes-remove-all-spec =
+    tie.close
+    (tie.spec
+    membership-requires
+    remove-all-scenes-requires
+    same-length
+    same-length-2
+    same-length-3
+    same-length-4
+    returns)

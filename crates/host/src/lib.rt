@@ -1,0 +1,424 @@
+// The calls of the scene table for hosts in C or Rust. Each is one call of the table; numbers stand for enums, and no reference
+// comes back. A lent slice is a pointer and a count of elements.
+use requests::CopyRequest;
+use requests::Membership;
+use scenes::Applied;
+use scenes::InfoRead;
+use scenes::ListRead;
+use scenes::Outcome;
+use scenes::SceneRead;
+use scenes::ScenesState;
+use scenes::Transition;
+use words::GroupKey;
+use words::SceneKey;
+use words::Slot;
+ghost use mathlib.Core.Path.{_≡_};
+ghost use Rattle.scenes.specs.Table.{tableOf, newState};
+ghost use Rattle.scenes.specs.Sound.{sound};
+ghost use Rattle.scenes.specs.Answer.{resultOf};
+ghost use Rattle.scenes.specs.Commands.{addScene, storeScene, removeScene, removeAllScenes, recallScene};
+ghost use Rattle.scenes.specs.Copy.{copyScene};
+ghost use Rattle.scenes.specs.Reads.{viewScene, recallLookup, fieldBytes, listedOf, getSceneMembership, readFabricSceneInfo};
+ghost use Rattle.scenes.specs.Lifecycle.{scenableAttributeChanged, removeForFabric, factoryReset, startup, failSafe};
+ghost use Rattle.host.specs.Numbers.{membershipOf, appliedOf, transitionOf, truthOf};
+ghost use Rattle.host.specs.Fields.{Within};
+
+// Where field bytes lie in the lent field slice.
+#[repr(C)]
+pub struct FieldBytes {
+    pub offset: usize,
+    pub len: usize,
+}
+
+// The host's answer on a group: 1 is yes, 0 is no, and any other number that it could not tell.
+fn membership(answer: u8) -> Membership
+    ensures { λ r. ⌜ r ≡ membershipOf answer ⌝ }
+{
+    if answer == 1 {
+        return Membership::Yes;
+    }
+    if answer == 0 {
+        return Membership::No;
+    }
+    Membership::Failed
+}
+
+// Whether the host applied a recalled scene: 1 is yes, any other number is no.
+fn application(answer: u8) -> Applied
+    ensures { λ r. ⌜ r ≡ appliedOf answer ⌝ }
+{
+    if answer == 1 {
+        return Applied::Yes;
+    }
+    Applied::Failed
+}
+
+// The time of a recall: the scene's own where `given` is 0, else the override.
+fn transition(given: u8, time: u32) -> Transition
+    ensures { λ r. ⌜ r ≡ transitionOf given time ⌝ }
+{
+    if given == 0 {
+        return Transition::Stored;
+    }
+    Transition::Given(time)
+}
+
+// 0 is no, any other number is yes: a byte that a host wrote need not be a truth value.
+fn truth(answer: u8) -> bool
+    ensures { λ r. ⌜ r ≡ truthOf answer ⌝ }
+{
+    if answer == 0 {
+        return false;
+    }
+    true
+}
+
+// The head of an empty table of `size` places, at data version 0.
+#[no_mangle]
+pub extern "C" fn scenes_new(size: usize) -> ScenesState
+    ensures { λ r. ⌜ r ≡ newState size ⌝ }
+{
+    ScenesState::new(size)
+}
+
+// Whether the table is sound. Where it is not, the calls that answer a status answer 6.
+#[no_mangle]
+pub extern "C" fn scenes_is_sound(
+    state: ScenesState,
+    keys: &[u64],
+    times: &[u32],
+    fields: &[u8],
+    records: &[u64],
+) -> bool
+    ensures { λ r. ⌜ r ≡ sound (tableOf state (now (keys .entry)) (now (times .entry)) (now (fields .entry)) (now (records .entry))) ⌝ }
+{
+    state.is_sound(keys, times, fields, records)
+}
+
+// Adds a scene, or gives it a new time and new fields.
+#[no_mangle]
+pub extern "C" fn scenes_add(
+    state: ScenesState,
+    keys: &mut [u64],
+    times: &mut [u32],
+    fields: &mut [u8],
+    records: &mut [u64],
+    key: SceneKey,
+    time: u32,
+    member: u8,
+    pairs: &[u8],
+    ext: &[u8],
+) -> Outcome
+    ensures { λ r. ⌜ resultOf (r .status) (r .save) (tableOf (r .state) (now (keys .exit)) (now (times .exit)) (now (fields .exit)) (now (records .exit))) ≡ addScene key time (membershipOf member) (now (pairs .entry)) (now (ext .entry)) (tableOf state (now (keys .entry)) (now (times .entry)) (now (fields .entry)) (now (records .entry))) ⌝ }
+{
+    state.add_scene(
+        keys,
+        times,
+        fields,
+        records,
+        key,
+        time,
+        membership(member),
+        pairs,
+        ext,
+    )
+}
+
+// Stores captured bytes as a scene, which becomes the fabric's current one.
+#[no_mangle]
+pub extern "C" fn scenes_store(
+    state: ScenesState,
+    keys: &mut [u64],
+    times: &mut [u32],
+    fields: &mut [u8],
+    records: &mut [u64],
+    key: SceneKey,
+    member: u8,
+    captured: &[u8],
+) -> Outcome
+    ensures { λ r. ⌜ resultOf (r .status) (r .save) (tableOf (r .state) (now (keys .exit)) (now (times .exit)) (now (fields .exit)) (now (records .exit))) ≡ storeScene key (membershipOf member) (now (captured .entry)) (tableOf state (now (keys .entry)) (now (times .entry)) (now (fields .entry)) (now (records .entry))) ⌝ }
+{
+    state.store_scene(
+        keys,
+        times,
+        fields,
+        records,
+        key,
+        membership(member),
+        captured,
+    )
+}
+
+// A scene's time and position.
+#[no_mangle]
+pub extern "C" fn scenes_view(
+    state: ScenesState,
+    keys: &[u64],
+    times: &[u32],
+    fields: &[u8],
+    records: &[u64],
+    key: SceneKey,
+    member: u8,
+) -> SceneRead
+    ensures { λ r. ⌜ r ≡ viewScene key (membershipOf member) (tableOf state (now (keys .entry)) (now (times .entry)) (now (fields .entry)) (now (records .entry))) ⌝ }
+{
+    state.view_scene(keys, times, fields, records, key, membership(member))
+}
+
+// What a recall applies: the time, by the override where `given` is not 0, and the scene's position.
+#[no_mangle]
+pub extern "C" fn scenes_recall_lookup(
+    state: ScenesState,
+    keys: &[u64],
+    times: &[u32],
+    fields: &[u8],
+    records: &[u64],
+    key: SceneKey,
+    member: u8,
+    given: u8,
+    time: u32,
+) -> SceneRead
+    ensures { λ r. ⌜ r ≡ recallLookup key (membershipOf member) (transitionOf given time) (tableOf state (now (keys .entry)) (now (times .entry)) (now (fields .entry)) (now (records .entry))) ⌝ }
+{
+    state.recall_lookup(
+        keys,
+        times,
+        fields,
+        records,
+        key,
+        membership(member),
+        transition(given, time),
+    )
+}
+
+// Ends a recall, once the host has applied the scene or could not.
+#[no_mangle]
+pub extern "C" fn scenes_recall(
+    state: ScenesState,
+    keys: &[u64],
+    times: &[u32],
+    fields: &[u8],
+    records: &mut [u64],
+    key: SceneKey,
+    member: u8,
+    applied: u8,
+) -> Outcome
+    ensures { λ r. ⌜ resultOf (r .status) (r .save) (tableOf (r .state) (now (keys .entry)) (now (times .entry)) (now (fields .entry)) (now (records .exit))) ≡ recallScene key (membershipOf member) (appliedOf applied) (tableOf state (now (keys .entry)) (now (times .entry)) (now (fields .entry)) (now (records .entry))) ⌝ }
+{
+    state.recall_scene(
+        keys,
+        times,
+        fields,
+        records,
+        key,
+        membership(member),
+        application(applied),
+    )
+}
+
+// Removes a scene.
+#[no_mangle]
+pub extern "C" fn scenes_remove(
+    state: ScenesState,
+    keys: &mut [u64],
+    times: &mut [u32],
+    fields: &mut [u8],
+    records: &mut [u64],
+    key: SceneKey,
+    member: u8,
+) -> Outcome
+    ensures { λ r. ⌜ resultOf (r .status) (r .save) (tableOf (r .state) (now (keys .exit)) (now (times .exit)) (now (fields .exit)) (now (records .exit))) ≡ removeScene key (membershipOf member) (tableOf state (now (keys .entry)) (now (times .entry)) (now (fields .entry)) (now (records .entry))) ⌝ }
+{
+    state.remove_scene(keys, times, fields, records, key, membership(member))
+}
+
+// Removes all scenes of a group on an endpoint.
+#[no_mangle]
+pub extern "C" fn scenes_remove_all(
+    state: ScenesState,
+    keys: &mut [u64],
+    times: &mut [u32],
+    fields: &mut [u8],
+    records: &mut [u64],
+    key: GroupKey,
+    member: u8,
+) -> Outcome
+    ensures { λ r. ⌜ resultOf (r .status) (r .save) (tableOf (r .state) (now (keys .exit)) (now (times .exit)) (now (fields .exit)) (now (records .exit))) ≡ removeAllScenes key (membershipOf member) (tableOf state (now (keys .entry)) (now (times .entry)) (now (fields .entry)) (now (records .entry))) ⌝ }
+{
+    state.remove_all_scenes(keys, times, fields, records, key, membership(member))
+}
+
+// Copies a scene, or with bit 0 of the mode a whole group.
+#[no_mangle]
+pub extern "C" fn scenes_copy(
+    state: ScenesState,
+    keys: &mut [u64],
+    times: &mut [u32],
+    fields: &mut [u8],
+    records: &mut [u64],
+    request: CopyRequest,
+    source: u8,
+    target: u8,
+) -> Outcome
+    ensures { λ r. ⌜ resultOf (r .status) (r .save) (tableOf (r .state) (now (keys .exit)) (now (times .exit)) (now (fields .exit)) (now (records .exit))) ≡ copyScene request (membershipOf source) (membershipOf target) (tableOf state (now (keys .entry)) (now (times .entry)) (now (fields .entry)) (now (records .entry))) ⌝ }
+{
+    state.copy_scene(
+        keys,
+        times,
+        fields,
+        records,
+        request,
+        membership(source),
+        membership(target),
+    )
+}
+
+// The remaining capacity, and the scene ids of a group in the front of a lent buffer.
+#[no_mangle]
+pub extern "C" fn scenes_get_membership(
+    state: ScenesState,
+    keys: &[u64],
+    times: &[u32],
+    fields: &[u8],
+    records: &[u64],
+    ids: &mut [u8],
+    key: GroupKey,
+    member: u8,
+) -> ListRead
+    ensures { λ r. ⌜ listedOf r (now (ids .exit)) ≡ getSceneMembership key (membershipOf member) (now (ids .entry)) (tableOf state (now (keys .entry)) (now (times .entry)) (now (fields .entry)) (now (records .entry))) ⌝ }
+{
+    state.get_scene_membership(keys, times, fields, records, ids, key, membership(member))
+}
+
+// The fabric's row of FabricSceneInfo on an endpoint; refused where `single` asks for one list element.
+#[no_mangle]
+pub extern "C" fn scenes_read_info(
+    state: ScenesState,
+    keys: &[u64],
+    times: &[u32],
+    fields: &[u8],
+    records: &[u64],
+    fabric: u8,
+    endpoint: u16,
+    single: u8,
+) -> InfoRead
+    ensures { λ r. ⌜ r ≡ readFabricSceneInfo fabric endpoint (truthOf single) (tableOf state (now (keys .entry)) (now (times .entry)) (now (fields .entry)) (now (records .entry))) ⌝ }
+{
+    state.read_fabric_scene_info(
+        keys,
+        times,
+        fields,
+        records,
+        fabric,
+        endpoint,
+        truth(single),
+    )
+}
+
+// Where the field bytes of the entry at a position lie in the lent slice: none past the entries or in a table that is not sound.
+#[no_mangle]
+pub extern "C" fn scenes_field_bytes(
+    state: ScenesState,
+    keys: &[u64],
+    times: &[u32],
+    fields: &[u8],
+    records: &[u64],
+    at: usize,
+) -> FieldBytes
+    ensures { λ r. ⌜ Within r (now (fields .entry)) (fieldBytes at (tableOf state (now (keys .entry)) (now (times .entry)) (now (fields .entry)) (now (records .entry)))) ⌝ }
+{
+    let len = state.field_bytes(keys, times, fields, records, at).len();
+    if len == 0 {
+        return FieldBytes { offset: 0, len };
+    }
+    FieldBytes {
+        offset: at * Slot::STRIDE + 1,
+        len,
+    }
+}
+
+// A scenable attribute changed on an endpoint.
+#[no_mangle]
+pub extern "C" fn scenes_attribute_changed(
+    state: ScenesState,
+    keys: &[u64],
+    times: &[u32],
+    fields: &[u8],
+    records: &mut [u64],
+    endpoint: u16,
+) -> Outcome
+    ensures { λ r. ⌜ resultOf (r .status) (r .save) (tableOf (r .state) (now (keys .entry)) (now (times .entry)) (now (fields .entry)) (now (records .exit))) ≡ scenableAttributeChanged endpoint (tableOf state (now (keys .entry)) (now (times .entry)) (now (fields .entry)) (now (records .entry))) ⌝ }
+{
+    state.scenable_attribute_changed(keys, times, fields, records, endpoint)
+}
+
+// A fabric left.
+#[no_mangle]
+pub extern "C" fn scenes_remove_fabric(
+    state: ScenesState,
+    keys: &mut [u64],
+    times: &mut [u32],
+    fields: &mut [u8],
+    records: &mut [u64],
+    fabric: u8,
+) -> Outcome
+    ensures { λ r. ⌜ resultOf (r .status) (r .save) (tableOf (r .state) (now (keys .exit)) (now (times .exit)) (now (fields .exit)) (now (records .exit))) ≡ removeForFabric fabric (tableOf state (now (keys .entry)) (now (times .entry)) (now (fields .entry)) (now (records .entry))) ⌝ }
+{
+    state.remove_for_fabric(keys, times, fields, records, fabric)
+}
+
+// A factory reset.
+#[no_mangle]
+pub extern "C" fn scenes_factory_reset(
+    state: ScenesState,
+    keys: &[u64],
+    times: &[u32],
+    fields: &[u8],
+    records: &[u64],
+) -> Outcome
+    ensures { λ r. ⌜ resultOf (r .status) (r .save) (tableOf (r .state) (now (keys .entry)) (now (times .entry)) (now (fields .entry)) (now (records .entry))) ≡ factoryReset (tableOf state (now (keys .entry)) (now (times .entry)) (now (fields .entry)) (now (records .entry))) ⌝ }
+{
+    state.factory_reset(keys, times, fields, records)
+}
+
+// A startup without a saved table.
+#[no_mangle]
+pub extern "C" fn scenes_startup(
+    state: ScenesState,
+    keys: &[u64],
+    times: &[u32],
+    fields: &[u8],
+    records: &[u64],
+) -> Outcome
+    ensures { λ r. ⌜ resultOf (r .status) (r .save) (tableOf (r .state) (now (keys .entry)) (now (times .entry)) (now (fields .entry)) (now (records .entry))) ≡ startup (tableOf state (now (keys .entry)) (now (times .entry)) (now (fields .entry)) (now (records .entry))) ⌝ }
+{
+    state.startup(keys, times, fields, records)
+}
+
+// The fail-safe was committed.
+#[no_mangle]
+pub extern "C" fn scenes_fail_safe_commit(
+    state: ScenesState,
+    keys: &[u64],
+    times: &[u32],
+    fields: &[u8],
+    records: &[u64],
+) -> Outcome
+    ensures { λ r. ⌜ resultOf (r .status) (r .save) (tableOf (r .state) (now (keys .entry)) (now (times .entry)) (now (fields .entry)) (now (records .entry))) ≡ failSafe (tableOf state (now (keys .entry)) (now (times .entry)) (now (fields .entry)) (now (records .entry))) ⌝ }
+{
+    state.fail_safe_commit(keys, times, fields, records)
+}
+
+// The fail-safe expired.
+#[no_mangle]
+pub extern "C" fn scenes_fail_safe_expiry(
+    state: ScenesState,
+    keys: &[u64],
+    times: &[u32],
+    fields: &[u8],
+    records: &[u64],
+) -> Outcome
+    ensures { λ r. ⌜ resultOf (r .status) (r .save) (tableOf (r .state) (now (keys .entry)) (now (times .entry)) (now (fields .entry)) (now (records .entry))) ≡ failSafe (tableOf state (now (keys .entry)) (now (times .entry)) (now (fields .entry)) (now (records .entry))) ⌝ }
+{
+    state.fail_safe_expiry(keys, times, fields, records)
+}

@@ -1,0 +1,112 @@
+-- `slots::in_block` meets its contract. Assumes nothing.
+use Prim.Native.Nat.{_+_}
+use mathlib.Core.Path.{_≡_}
+use native.Mathlib.Omega.{arith}
+use Rattle.words.specs.Below.{anyBelow}
+use borrow.Author.Needs.{needs}
+use Rattle.slots.proofs.in_block.Statement.{statement}
+use Rattle.slots.proofs.in_block.Tie as tie
+
+mul-result : tie.Need-mul-result
+mul-result c = search needs
+
+shared-slice-read-result : tie.Need-shared-slice-read-result
+shared-slice-read-result c = search needs
+
+add-result : tie.Need-add-result
+add-result c = search needs
+
+mul-result-2 : tie.Need-mul-result-2
+mul-result-2 c = search needs
+
+shared-slice-read-result-2 : tie.Need-shared-slice-read-result-2
+shared-slice-read-result-2 c = search needs
+
+add-result-2 : tie.Need-add-result-2
+add-result-2 c = search needs
+
+mul-result-3 : tie.Need-mul-result-3
+mul-result-3 c = search needs
+
+shared-slice-read-result-3 : tie.Need-shared-slice-read-result-3
+shared-slice-read-result-3 c = search needs
+
+add-result-3 : tie.Need-add-result-3
+add-result-3 c = search needs
+
+mul-result-4 : tie.Need-mul-result-4
+mul-result-4 c = search needs
+
+shared-slice-read-result-4 : tie.Need-shared-slice-read-result-4
+shared-slice-read-result-4 c = search needs
+
+add-result-4 : tie.Need-add-result-4
+add-result-4 c = search needs
+
+mul-result-5 : tie.Need-mul-result-5
+mul-result-5 c = search needs
+
+shared-slice-read-result-5 : tie.Need-shared-slice-read-result-5
+shared-slice-read-result-5 c = search needs
+
+add-result-5 : tie.Need-add-result-5
+add-result-5 c = search needs
+
+mul-result-6 : tie.Need-mul-result-6
+mul-result-6 c = search needs
+
+shared-slice-read-result-6 : tie.Need-shared-slice-read-result-6
+shared-slice-read-result-6 c = search needs
+
+add-result-6 : tie.Need-add-result-6
+add-result-6 c = search needs
+
+mul-result-7 : tie.Need-mul-result-7
+mul-result-7 c = search needs
+
+shared-slice-read-result-7 : tie.Need-shared-slice-read-result-7
+shared-slice-read-result-7 c = search needs
+
+add-result-7 : tie.Need-add-result-7
+add-result-7 c = search needs
+
+mul-result-8 : tie.Need-mul-result-8
+mul-result-8 c = search needs
+
+shared-slice-read-result-8 : tie.Need-shared-slice-read-result-8
+shared-slice-read-result-8 c = search needs
+
+returns : tie.Need-returns
+unfolding anyBelow
+returns c =
+    let e : c .before .before .before .before .before .before .before .before .args .at + 0 ≡ c .before .before .before .before .before .before .before .before .args .at = omega arith in
+    rw (e)
+
+pub in-block-spec : {M : Type 1} → statement M
+in-block-spec =
+    tie.close
+    (tie.spec
+    mul-result
+    shared-slice-read-result
+    add-result
+    mul-result-2
+    shared-slice-read-result-2
+    add-result-2
+    mul-result-3
+    shared-slice-read-result-3
+    add-result-3
+    mul-result-4
+    shared-slice-read-result-4
+    add-result-4
+    mul-result-5
+    shared-slice-read-result-5
+    add-result-5
+    mul-result-6
+    shared-slice-read-result-6
+    add-result-6
+    mul-result-7
+    shared-slice-read-result-7
+    add-result-7
+    mul-result-8
+    shared-slice-read-result-8
+    returns)

@@ -1,0 +1,124 @@
+//! The exported calls, each with its soundness test. A recall is its two calls.
+use crate::ffi::{self, Lent, LentMut, Outcome, State};
+use crate::requests::{CopyRequest, GroupKey, SceneKey};
+use crate::rows::{Side, FIELDS, TIME};
+
+const STRIDE: usize = 129;
+const YES: u8 = 1;
+
+#[derive(Clone)]
+struct Table {
+    state: State,
+    keys: Vec<u64>,
+    times: Vec<u32>,
+    fields: Vec<u8>,
+    records: Vec<u64>,
+}
+
+pub struct Ours {
+    now: Table,
+    kept: Table,
+    ids: [u8; 1024],
+}
+
+impl Ours {
+    pub fn new(size: usize) -> Self {
+        let now = Table {
+            state: ffi::new(size),
+            keys: vec![0; size],
+            times: vec![0; size],
+            fields: vec![0; size * STRIDE],
+            records: vec![0; size],
+        };
+        Self { kept: now.clone(), now, ids: [0; 1024] }
+    }
+
+    fn lend(&mut self) -> (State, LentMut<'_>) {
+        let Table { state, keys, times, fields, records } = &mut self.now;
+        (*state, LentMut { keys, times, fields, records })
+    }
+
+    fn lent(&self) -> Lent<'_> {
+        let Table { keys, times, fields, records, .. } = &self.now;
+        Lent { keys, times, fields, records }
+    }
+
+    fn done(&mut self, outcome: Outcome) -> u8 {
+        self.now.state = outcome.state;
+        outcome.status
+    }
+}
+
+impl Side for Ours {
+    fn add(&mut self, key: SceneKey) -> u8 {
+        let (state, lent) = self.lend();
+        let done = ffi::add(state, lent, key, TIME, YES, &[1, 1], &FIELDS);
+        self.done(done)
+    }
+    fn store(&mut self, key: SceneKey) -> u8 {
+        let (state, lent) = self.lend();
+        let done = ffi::store(state, lent, key, YES, &FIELDS[..15]);
+        self.done(done)
+    }
+    fn view(&mut self, key: SceneKey) -> u8 {
+        ffi::view(self.now.state, self.lent(), key, YES).status
+    }
+    fn view_fields(&mut self, key: SceneKey) -> u8 {
+        let read = ffi::view(self.now.state, self.lent(), key, YES);
+        let found = ffi::field_bytes(self.now.state, self.lent(), read.at);
+        self.ids[..found.len].copy_from_slice(&self.now.fields[found.offset..][..found.len]);
+        read.status
+    }
+    fn remove(&mut self, key: SceneKey) -> u8 {
+        let (state, lent) = self.lend();
+        let done = ffi::remove(state, lent, key, YES);
+        self.done(done)
+    }
+    fn remove_all(&mut self, key: GroupKey) -> u8 {
+        let (state, lent) = self.lend();
+        let done = ffi::remove_all(state, lent, key, YES);
+        self.done(done)
+    }
+    fn copy(&mut self, request: CopyRequest) -> u8 {
+        let (state, lent) = self.lend();
+        let done = ffi::copy(state, lent, request, YES, YES);
+        self.done(done)
+    }
+    fn recall(&mut self, key: SceneKey) -> u8 {
+        let found = ffi::recall_lookup(self.now.state, self.lent(), key, YES, 0, 0);
+        if found.status != 0 {
+            return found.status;
+        }
+        let (state, lent) = self.lend();
+        let done = ffi::recall(state, lent, key, YES, 1);
+        self.done(done)
+    }
+    fn membership(&mut self, key: GroupKey) -> u8 {
+        let Table { state, keys, times, fields, records } = &self.now;
+        ffi::get_membership(*state, Lent { keys, times, fields, records }, &mut self.ids, key, YES).status
+    }
+    fn info(&mut self, key: GroupKey) -> u8 {
+        ffi::read_info(self.now.state, self.lent(), key.fabric, key.endpoint, 0).status
+    }
+    fn notice(&mut self, endpoint: u16) -> u8 {
+        let (state, lent) = self.lend();
+        let done = ffi::attribute_changed(state, lent, endpoint);
+        self.done(done)
+    }
+    fn remove_fabric(&mut self, fabric: u8) -> u8 {
+        let (state, lent) = self.lend();
+        let done = ffi::remove_fabric(state, lent, fabric);
+        self.done(done)
+    }
+    fn keep(&mut self) {
+        self.kept = self.now.clone();
+    }
+    fn restore(&mut self) {
+        let (now, kept) = (&mut self.now, &self.kept);
+        now.state = kept.state;
+        now.keys.copy_from_slice(&kept.keys);
+        now.times.copy_from_slice(&kept.times);
+        now.fields.copy_from_slice(&kept.fields);
+        now.records.copy_from_slice(&kept.records);
+    }
+}

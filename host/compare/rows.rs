@@ -1,0 +1,97 @@
+//! What is measured: the tables and the calls, the same for both sides.
+use crate::requests::{CopyRequest, GroupKey, GroupScene, SceneKey};
+
+pub const TIME: u32 = 1000;
+
+/// The field bytes of every scene: 16, of which the first ends the list that a recall walks, so that nothing is applied.
+pub const FIELDS: [u8; 16] = [0x18, 1, 2, 3, 4, 5, 6, 7, 8, 9, 10, 11, 12, 13, 14, 0x18];
+
+/// A table, ours or the published one. A call answers its status.
+pub trait Side {
+    fn add(&mut self, key: SceneKey) -> u8;
+    fn store(&mut self, key: SceneKey) -> u8;
+    fn view(&mut self, key: SceneKey) -> u8;
+    /// A view, with the field bytes copied to a buffer.
+    fn view_fields(&mut self, key: SceneKey) -> u8;
+    fn remove(&mut self, key: SceneKey) -> u8;
+    fn remove_all(&mut self, key: GroupKey) -> u8;
+    fn copy(&mut self, request: CopyRequest) -> u8;
+    fn recall(&mut self, key: SceneKey) -> u8;
+    fn membership(&mut self, key: GroupKey) -> u8;
+    fn info(&mut self, key: GroupKey) -> u8;
+    fn notice(&mut self, endpoint: u16) -> u8;
+    fn remove_fabric(&mut self, fabric: u8) -> u8;
+    /// Remembers the table as it stands, and makes it so again.
+    fn keep(&mut self);
+    fn restore(&mut self);
+}
+
+/// Entry i of every table: four fabrics, and of each four groups on endpoint 1.
+pub fn entry(i: usize) -> SceneKey {
+    SceneKey { fabric: 1 + (i % 4) as u8, endpoint: 1, group: 1 + (i / 4 % 4) as u16, scene: 1 + (i / 16) as u8 }
+}
+
+/// A table of so many entries, with the last scene of each fabric as its current one.
+pub fn fill(side: &mut impl Side, entries: usize) {
+    for i in 0..entries {
+        assert_eq!(side.add(entry(i)), 0);
+    }
+    for i in entries.saturating_sub(4)..entries {
+        assert_eq!(side.store(entry(i)), 0);
+    }
+    side.keep();
+}
+
+/// The entries that the calls name.
+#[derive(Clone, Copy)]
+pub struct Plan {
+    pub entries: usize,
+}
+
+impl Plan {
+    fn middle(self) -> SceneKey {
+        entry(self.entries / 2)
+    }
+    fn group(self) -> GroupKey {
+        let SceneKey { fabric, endpoint, group, .. } = self.middle();
+        GroupKey { fabric, endpoint, group }
+    }
+    /// No table has it.
+    pub fn absent(self) -> SceneKey {
+        SceneKey { group: 9, ..self.middle() }
+    }
+    fn copied(self, mode: u8) -> CopyRequest {
+        let SceneKey { fabric, endpoint, group, scene } = self.middle();
+        CopyRequest { fabric, endpoint, mode, from: GroupScene { group, scene }, to: GroupScene { group: 9, scene } }
+    }
+}
+
+pub struct Row<S> {
+    pub name: &'static str,
+    pub call: fn(&mut S, Plan) -> u8,
+    /// Whether the table has to be made anew after it.
+    pub writes: bool,
+}
+
+pub fn rows<S: Side>() -> Vec<Row<S>> {
+    let row = |name, writes, call| Row { name, writes, call };
+    vec![
+        row("add, new", true, |s: &mut S, p: Plan| s.add(p.absent())),
+        row("add, overwrite", true, |s, p| s.add(p.middle())),
+        row("store", true, |s, p| s.store(p.middle())),
+        row("view, first", false, |s, _| s.view(entry(0))),
+        row("view, middle", false, |s, p| s.view(p.middle())),
+        row("view, last", false, |s, p| s.view(entry(p.entries.saturating_sub(1)))),
+        row("view, none", false, |s, p| s.view(p.absent())),
+        row("view, middle, fields copied", false, |s, p| s.view_fields(p.middle())),
+        row("remove", true, |s, p| s.remove(p.middle())),
+        row("remove all", true, |s, p| s.remove_all(p.group())),
+        row("copy, one", true, |s, p| s.copy(p.copied(0))),
+        row("copy, group", true, |s, p| s.copy(p.copied(1))),
+        row("recall", true, |s, p| s.recall(p.middle())),
+        row("membership", false, |s, p| s.membership(p.group())),
+        row("info", false, |s, p| s.info(p.group())),
+        row("notice", true, |s, _| s.notice(1)),
+        row("fabric removal", true, |s, p| s.remove_fabric(p.middle().fabric)),
+    ]
+}

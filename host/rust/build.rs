@@ -1,0 +1,14 @@
+//! Links libhost.a, which `rt staticlib host` writes: from the folder that SCENES_LIB names, else from the repository's target/staticlib.
+use std::env;
+use std::path::PathBuf;
+
+fn main() {
+    let folder = match env::var_os("SCENES_LIB") {
+        Some(folder) => PathBuf::from(folder),
+        None => PathBuf::from(env::var_os("CARGO_MANIFEST_DIR").expect("cargo sets it")).join("../../target/staticlib"),
+    };
+    println!("cargo:rustc-link-search=native={}", folder.display());
+    println!("cargo:rustc-link-lib=static=host");
+    println!("cargo:rerun-if-changed={}", folder.join("libhost.a").display());
+    println!("cargo:rerun-if-env-changed=SCENES_LIB");
+}

@@ -1,0 +1,161 @@
+//! The functions of libhost.a, declared as host/scenes.h declares them, each behind a safe function. The only unsafe code of the crate.
+//!
+//! What the library asks of its callers across the boundary is that a pointer is valid for its count, that no two arrays overlap and that
+//! nobody else touches them meanwhile: slices and exclusive references have all that.
+#![allow(unsafe_code)]
+use crate::requests::{CopyRequest, GroupKey, SceneKey};
+
+/// The head of a table.
+#[repr(C)]
+#[derive(Clone, Copy, Debug, PartialEq, Eq)]
+pub(crate) struct State {
+    pub size: usize,
+    pub entries: usize,
+    pub recorded: usize,
+    pub dataver: u32,
+}
+
+// A truth value comes as a byte, 0 or 1. Reading it as a number asks nothing of it.
+
+#[repr(C)]
+#[derive(Clone, Copy)]
+pub(crate) struct Outcome {
+    pub status: u8,
+    pub save: u8,
+    pub state: State,
+}
+
+#[repr(C)]
+#[derive(Clone, Copy)]
+pub(crate) struct SceneRead {
+    pub status: u8,
+    pub time: u32,
+    pub at: usize,
+    pub state: State,
+}
+
+#[repr(C)]
+#[derive(Clone, Copy)]
+pub(crate) struct ListRead {
+    pub status: u8,
+    pub remaining: u8,
+    pub len: usize,
+    pub state: State,
+}
+
+#[repr(C)]
+#[derive(Clone, Copy)]
+pub(crate) struct InfoRead {
+    pub status: u8,
+    pub present: u8,
+    pub count: u8,
+    pub group: u16,
+    pub scene: u8,
+    pub valid: u8,
+    pub remaining: u8,
+    pub fabric: u8,
+    pub state: State,
+}
+
+#[repr(C)]
+#[derive(Clone, Copy)]
+pub(crate) struct FieldBytes {
+    pub offset: usize,
+    pub len: usize,
+}
+
+/// The lent memory, to be read.
+#[derive(Clone, Copy)]
+pub(crate) struct Lent<'a> {
+    pub keys: &'a [u64],
+    pub times: &'a [u32],
+    pub fields: &'a [u8],
+    pub records: &'a [u64],
+}
+
+/// The lent memory, to be written.
+pub(crate) struct LentMut<'a> {
+    pub keys: &'a mut [u64],
+    pub times: &'a mut [u32],
+    pub fields: &'a mut [u8],
+    pub records: &'a mut [u64],
+}
+
+extern "C" {
+    fn scenes_new(size: usize) -> State;
+}
+
+/// The head of an empty table.
+pub(crate) fn new(size: usize) -> State {
+    // SAFETY: a number goes in, and any bytes are a head.
+    unsafe { scenes_new(size) }
+}
+
+// A call: the safe function, and the declared one behind the equals sign, with what is passed for each of its parameters beyond the head
+// and the lent memory. SAFETY: each pointer comes from a slice, with that slice's length; what is written is borrowed exclusively; and
+// every byte pattern is a value of an answer.
+macro_rules! calls {
+    ($lent:ident, $at:ident, $p:ident:
+        $(fn $name:ident($($arg:ident: $ty:ty),*) -> $answer:ty = $symbol:ident($($passed:expr => $as:ty),*);)*) => {
+        extern "C" {
+            $(fn $symbol(
+                state: State,
+                keys: $p!(u64),
+                keys_len: usize,
+                times: $p!(u32),
+                times_len: usize,
+                fields: $p!(u8),
+                fields_len: usize,
+                records: $p!(u64),
+                records_len: usize,
+                $(_: $as),*
+            ) -> $answer;)*
+        }
+
+        $(pub(crate) fn $name(state: State, lent: $lent<'_>, $($arg: $ty),*) -> $answer {
+            let (k, t, f, r) = (lent.keys, lent.times, lent.fields, lent.records);
+            unsafe { $symbol(state, k.$at(), k.len(), t.$at(), t.len(), f.$at(), f.len(), r.$at(), r.len(), $($passed),*) }
+        })*
+    };
+}
+
+macro_rules! read {
+    ($of:ty) => { *const $of };
+}
+
+macro_rules! write {
+    ($of:ty) => { *mut $of };
+}
+
+calls! { Lent, as_ptr, read:
+    fn is_sound() -> u8 = scenes_is_sound();
+    fn view(key: SceneKey, member: u8) -> SceneRead = scenes_view(key => SceneKey, member => u8);
+    fn recall_lookup(key: SceneKey, member: u8, given: u8, time: u32) -> SceneRead
+        = scenes_recall_lookup(key => SceneKey, member => u8, given => u8, time => u32);
+    fn get_membership(ids: &mut [u8], key: GroupKey, member: u8) -> ListRead
+        = scenes_get_membership(ids.as_mut_ptr() => *mut u8, ids.len() => usize, key => GroupKey, member => u8);
+    fn read_info(fabric: u8, endpoint: u16, single: u8) -> InfoRead = scenes_read_info(fabric => u8, endpoint => u16, single => u8);
+    fn field_bytes(at: usize) -> FieldBytes = scenes_field_bytes(at => usize);
+    fn factory_reset() -> Outcome = scenes_factory_reset();
+    fn startup() -> Outcome = scenes_startup();
+    fn fail_safe_commit() -> Outcome = scenes_fail_safe_commit();
+    fn fail_safe_expiry() -> Outcome = scenes_fail_safe_expiry();
+}
+
+// A recall and an attribute notice write the records alone; for them the header has the other three as constant.
+calls! { LentMut, as_mut_ptr, write:
+    fn add(key: SceneKey, time: u32, member: u8, pairs: &[u8], ext: &[u8]) -> Outcome
+        = scenes_add(
+            key => SceneKey, time => u32, member => u8,
+            pairs.as_ptr() => *const u8, pairs.len() => usize, ext.as_ptr() => *const u8, ext.len() => usize
+        );
+    fn store(key: SceneKey, member: u8, captured: &[u8]) -> Outcome
+        = scenes_store(key => SceneKey, member => u8, captured.as_ptr() => *const u8, captured.len() => usize);
+    fn recall(key: SceneKey, member: u8, applied: u8) -> Outcome = scenes_recall(key => SceneKey, member => u8, applied => u8);
+    fn remove(key: SceneKey, member: u8) -> Outcome = scenes_remove(key => SceneKey, member => u8);
+    fn remove_all(key: GroupKey, member: u8) -> Outcome = scenes_remove_all(key => GroupKey, member => u8);
+    fn copy(request: CopyRequest, source: u8, target: u8) -> Outcome
+        = scenes_copy(request => CopyRequest, source => u8, target => u8);
+    fn attribute_changed(endpoint: u16) -> Outcome = scenes_attribute_changed(endpoint => u16);
+    fn remove_fabric(fabric: u8) -> Outcome = scenes_remove_fabric(fabric => u8);
+}

@@ -1,0 +1,36 @@
+//! The scene table of Scenes Management, as a Matter device keeps it: rs-matter's `scenes.rs`, ported to Rattle and proved.
+//!
+//! [`Scenes`] owns the table's memory and has a method for each call of the proved library. There is no heap, no global and no panic:
+//! each call answers, whatever its inputs. A refusal is an [`Error`] with the number that the table's requirements give it, and changes
+//! nothing, apart from a whole-group copy that runs out midway.
+//!
+//! ```
+//! use scenes::{Error, Membership, SceneKey, Scenes};
+//!
+//! let mut table = Scenes::<16>::new();
+//! let key = SceneKey { fabric: 1, endpoint: 1, group: 0, scene: 5 };
+//!
+//! let stored = table.store(key, Membership::Yes, b"\x15\x18")?;
+//! assert!(stored.save);
+//! assert_eq!(table.view(key, Membership::Yes)?.fields, b"\x15\x18\x18");
+//!
+//! table.remove_fabric(1)?;
+//! assert_eq!(table.view(key, Membership::Yes), Err(Error::NotFound));
+//! # Ok::<(), Error>(())
+//! ```
+//!
+//! What the proofs do not reach is the boundary itself: that the declarations in this crate are those of the library. Tests hold the
+//! layouts and every argument.
+#![cfg_attr(not(test), no_std)]
+#![deny(missing_docs, unsafe_code)]
+
+mod answers;
+mod ffi;
+mod requests;
+mod table;
+#[cfg(test)]
+mod tests;
+
+pub use answers::{Done, Error, InfoRow, Scene, SceneList};
+pub use requests::{pair, Applied, CopyRequest, GroupKey, GroupScene, Membership, SceneKey, Transition};
+pub use table::{Image, Scenes, MAX_FIELDS, MAX_SCENES, MAX_TIME, STRIDE};

@@ -1,0 +1,397 @@
+//! The table: its memory, and a method for each call.
+use crate::answers::{Done, Error, InfoRow, Scene, SceneList};
+use crate::ffi::{self, Lent, LentMut, Outcome, SceneRead, State};
+use crate::requests::{Applied, CopyRequest, GroupKey, Membership, SceneKey, Transition};
+
+/// The largest table.
+pub const MAX_SCENES: usize = 1024;
+
+/// The most field bytes of a scene.
+pub const MAX_FIELDS: usize = 128;
+
+/// The bytes that an entry's fields take: a length, then room for [`MAX_FIELDS`].
+pub const STRIDE: usize = 129;
+
+/// The longest transition time, in milliseconds.
+pub const MAX_TIME: u32 = 60_000_000;
+
+/// All that a table is, as a host saves it.
+#[derive(Clone, Debug, PartialEq, Eq)]
+pub struct Image<const N: usize> {
+    /// How many scenes there are.
+    pub entries: usize,
+    /// How many fabrics have a current scene.
+    pub recorded: usize,
+    /// The data version of FabricSceneInfo.
+    pub dataver: u32,
+    /// For each scene its key word: fabric × 2^40 + endpoint × 2^24 + group × 2^8 + scene.
+    pub keys: [u64; N],
+    /// For each scene its transition time.
+    pub times: [u32; N],
+    /// For each scene the length of its fields, and the fields.
+    pub fields: [[u8; STRIDE]; N],
+    /// For each fabric's current scene its key word, plus 2^48 while it is valid.
+    pub records: [u64; N],
+}
+
+/// A table of at most `N` scenes that owns its memory. A table of more than [`MAX_SCENES`] does not compile:
+///
+/// ```compile_fail
+/// let table = scenes::Scenes::<1025>::new();
+/// ```
+#[derive(Clone, Debug, PartialEq, Eq)]
+pub struct Scenes<const N: usize> {
+    pub(crate) image: Image<N>,
+}
+
+impl<const N: usize> Default for Scenes<N> {
+    fn default() -> Self {
+        Self::new()
+    }
+}
+
+impl<const N: usize> Scenes<N> {
+    const FITS: () = assert!(N <= MAX_SCENES, "a table has at most 1,024 scenes");
+
+    /// An empty table, at data version 0.
+    ///
+    /// ```
+    /// let table = scenes::Scenes::<16>::new();
+    /// assert_eq!((table.entries(), table.data_version()), (0, 0));
+    /// ```
+    pub fn new() -> Self {
+        let () = Self::FITS;
+        let State { entries, recorded, dataver, .. } = ffi::new(N);
+        let image = Image { entries, recorded, dataver, keys: [0; N], times: [0; N], fields: [[0; STRIDE]; N], records: [0; N] };
+        Scenes { image }
+    }
+
+    /// The table that was saved. [`Error::Unsound`] if the image is not one of a table.
+    ///
+    /// ```
+    /// use scenes::{Error, Scenes};
+    ///
+    /// let mut image = Scenes::<16>::new().image().clone();
+    /// assert!(Scenes::restore(image.clone()).is_ok());
+    /// image.entries = 17;
+    /// assert_eq!(Scenes::restore(image), Err(Error::Unsound));
+    /// ```
+    pub fn restore(image: Image<N>) -> Result<Self, Error> {
+        let () = Self::FITS;
+        let table = Scenes { image };
+        if table.is_sound() {
+            Ok(table)
+        } else {
+            Err(Error::Unsound)
+        }
+    }
+
+    /// What to save.
+    pub fn image(&self) -> &Image<N> {
+        &self.image
+    }
+
+    /// How many scenes there are.
+    pub fn entries(&self) -> usize {
+        self.image.entries
+    }
+
+    /// How many fabrics have a current scene.
+    pub fn recorded(&self) -> usize {
+        self.image.recorded
+    }
+
+    /// The data version of FabricSceneInfo.
+    pub fn data_version(&self) -> u32 {
+        self.image.dataver
+    }
+
+    /// Whether the table is sound: it is, since only the table's own calls write its memory.
+    ///
+    /// ```
+    /// assert!(scenes::Scenes::<16>::new().is_sound());
+    /// ```
+    pub fn is_sound(&self) -> bool {
+        ffi::is_sound(self.state(), self.lent()) != 0
+    }
+
+    /// Adds a scene, or gives it a new time and new fields. `pairs` has a byte of [`pair`](crate::pair) for each attribute that it sets.
+    ///
+    /// ```
+    /// use scenes::{pair, Error, Membership, SceneKey, Scenes};
+    ///
+    /// let mut table = Scenes::<16>::new();
+    /// let key = SceneKey { fabric: 1, endpoint: 1, group: 0, scene: 5 };
+    /// assert!(table.add(key, 1000, Membership::Yes, &[pair::SCENABLE], b"\x18")?.save);
+    /// assert_eq!(table.add(key, 1000, Membership::Yes, &[pair::NOT_SCENABLE], b"\x18"), Err(Error::InvalidCommand));
+    /// # Ok::<(), Error>(())
+    /// ```
+    pub fn add(&mut self, key: SceneKey, time: u32, member: Membership, pairs: &[u8], fields: &[u8]) -> Result<Done, Error> {
+        let (state, lent) = self.lend();
+        let done = ffi::add(state, lent, key, time, member.number(), pairs, fields);
+        self.done(done)
+    }
+
+    /// Stores captured bytes as a scene, with the end of their container behind them. It becomes the fabric's current scene.
+    ///
+    /// ```
+    /// use scenes::{Error, Membership, SceneKey, Scenes};
+    ///
+    /// let mut table = Scenes::<16>::new();
+    /// let key = SceneKey { fabric: 1, endpoint: 1, group: 2, scene: 5 };
+    /// assert_eq!(table.store(key, Membership::No, b"\x15"), Err(Error::InvalidCommand));
+    /// assert!(table.store(key, Membership::Yes, b"\x15")?.save);
+    /// # Ok::<(), Error>(())
+    /// ```
+    pub fn store(&mut self, key: SceneKey, member: Membership, captured: &[u8]) -> Result<Done, Error> {
+        let (state, lent) = self.lend();
+        let done = ffi::store(state, lent, key, member.number(), captured);
+        self.done(done)
+    }
+
+    /// A scene's time and fields.
+    ///
+    /// ```
+    /// use scenes::{Error, Membership, SceneKey, Scenes};
+    ///
+    /// let mut table = Scenes::<16>::new();
+    /// let key = SceneKey { fabric: 1, endpoint: 1, group: 0, scene: 5 };
+    /// assert_eq!(table.view(key, Membership::Yes), Err(Error::NotFound));
+    /// table.add(key, 1000, Membership::Yes, &[], b"\x18")?;
+    /// let scene = table.view(key, Membership::Yes)?;
+    /// assert_eq!((scene.time, scene.fields), (1000, &b"\x18"[..]));
+    /// # Ok::<(), Error>(())
+    /// ```
+    pub fn view(&self, key: SceneKey, member: Membership) -> Result<Scene<'_>, Error> {
+        self.scene(ffi::view(self.state(), self.lent(), key, member.number()))
+    }
+
+    /// What a recall applies: the time that counts and the scene's fields. The host applies them, and then ends the recall by
+    /// [`recall`](Scenes::recall).
+    ///
+    /// ```
+    /// use scenes::{Applied, Error, Membership, SceneKey, Scenes, Transition};
+    ///
+    /// let mut table = Scenes::<16>::new();
+    /// let key = SceneKey { fabric: 1, endpoint: 1, group: 0, scene: 5 };
+    /// table.add(key, 1000, Membership::Yes, &[], b"\x18")?;
+    /// let scene = table.recall_lookup(key, Membership::Yes, Transition::Given(300))?;
+    /// assert_eq!((scene.time, scene.fields), (300, &b"\x18"[..]));
+    /// assert!(table.recall(key, Membership::Yes, Applied::Yes)?.save);
+    /// # Ok::<(), Error>(())
+    /// ```
+    pub fn recall_lookup(&self, key: SceneKey, member: Membership, transition: Transition) -> Result<Scene<'_>, Error> {
+        let (given, time) = transition.numbers();
+        self.scene(ffi::recall_lookup(self.state(), self.lent(), key, member.number(), given, time))
+    }
+
+    /// Ends a recall: a scene that the host has applied becomes the fabric's current one.
+    pub fn recall(&mut self, key: SceneKey, member: Membership, applied: Applied) -> Result<Done, Error> {
+        let (state, lent) = self.lend();
+        let done = ffi::recall(state, lent, key, member.number(), applied.number());
+        self.done(done)
+    }
+
+    /// Removes a scene.
+    ///
+    /// ```
+    /// use scenes::{Error, Membership, SceneKey, Scenes};
+    ///
+    /// let mut table = Scenes::<16>::new();
+    /// let key = SceneKey { fabric: 1, endpoint: 1, group: 0, scene: 5 };
+    /// table.add(key, 1000, Membership::Yes, &[], b"\x18")?;
+    /// assert!(table.remove(key, Membership::Yes)?.save);
+    /// assert_eq!(table.remove(key, Membership::Yes), Err(Error::NotFound));
+    /// # Ok::<(), Error>(())
+    /// ```
+    pub fn remove(&mut self, key: SceneKey, member: Membership) -> Result<Done, Error> {
+        let (state, lent) = self.lend();
+        let done = ffi::remove(state, lent, key, member.number());
+        self.done(done)
+    }
+
+    /// Removes all scenes of a group on an endpoint. Nothing is to be saved where there were none.
+    ///
+    /// ```
+    /// use scenes::{Error, GroupKey, Membership, Scenes};
+    ///
+    /// let mut table = Scenes::<16>::new();
+    /// let group = GroupKey { fabric: 1, endpoint: 1, group: 0 };
+    /// assert!(!table.remove_all(group, Membership::Yes)?.save);
+    /// # Ok::<(), Error>(())
+    /// ```
+    pub fn remove_all(&mut self, key: GroupKey, member: Membership) -> Result<Done, Error> {
+        let (state, lent) = self.lend();
+        let done = ffi::remove_all(state, lent, key, member.number());
+        self.done(done)
+    }
+
+    /// Copies a scene, or with [`CopyRequest::ALL`] a whole group. A whole group that runs out midway answers
+    /// [`Error::InsufficientSpace`] and keeps the copies that it made.
+    ///
+    /// ```
+    /// use scenes::{CopyRequest, Error, GroupScene, Membership, SceneKey, Scenes};
+    ///
+    /// let mut table = Scenes::<16>::new();
+    /// let key = SceneKey { fabric: 1, endpoint: 1, group: 2, scene: 5 };
+    /// table.add(key, 1000, Membership::Yes, &[], b"\x18")?;
+    /// let from = GroupScene { group: 2, scene: 5 };
+    /// let to = GroupScene { group: 3, scene: 6 };
+    /// let request = CopyRequest { fabric: 1, endpoint: 1, mode: 0, from, to };
+    /// assert!(table.copy(request, Membership::Yes, Membership::Yes)?.save);
+    /// assert_eq!(table.entries(), 2);
+    /// # Ok::<(), Error>(())
+    /// ```
+    pub fn copy(&mut self, request: CopyRequest, source: Membership, target: Membership) -> Result<Done, Error> {
+        let (state, lent) = self.lend();
+        let done = ffi::copy(state, lent, request, source.number(), target.number());
+        self.done(done)
+    }
+
+    /// The remaining capacity of a fabric, and the scene ids of a group, written to the front of a buffer. [`MAX_SCENES`] bytes are
+    /// always enough.
+    ///
+    /// ```
+    /// use scenes::{Error, GroupKey, Membership, SceneKey, Scenes};
+    ///
+    /// let mut table = Scenes::<16>::new();
+    /// let key = SceneKey { fabric: 1, endpoint: 1, group: 2, scene: 5 };
+    /// table.add(key, 1000, Membership::Yes, &[], b"\x18")?;
+    /// let group = GroupKey { fabric: 1, endpoint: 1, group: 2 };
+    /// let mut ids = [0; 16];
+    /// let list = table.get_membership(group, Membership::Yes, &mut ids)?;
+    /// assert_eq!((list.remaining, list.ids), (6, &[5][..]));
+    /// # Ok::<(), Error>(())
+    /// ```
+    pub fn get_membership<'a>(&self, key: GroupKey, member: Membership, ids: &'a mut [u8]) -> Result<SceneList<'a>, Error> {
+        let read = ffi::get_membership(self.state(), self.lent(), ids, key, member.number());
+        if read.status != 0 {
+            return Err(Error::of(read.status));
+        }
+        Ok(SceneList { remaining: read.remaining, ids: ids.get(..read.len).unwrap_or(&[]) })
+    }
+
+    /// The fabric's row of FabricSceneInfo on an endpoint, if it has scenes there or a current one. `single` says that one list element
+    /// was asked for, which is refused.
+    ///
+    /// ```
+    /// use scenes::{Error, Scenes};
+    ///
+    /// let table = Scenes::<16>::new();
+    /// assert_eq!(table.read_info(1, 1, false), Ok(None));
+    /// assert_eq!(table.read_info(1, 1, true), Err(Error::SingleElement));
+    /// ```
+    pub fn read_info(&self, fabric: u8, endpoint: u16, single: bool) -> Result<Option<InfoRow>, Error> {
+        let read = ffi::read_info(self.state(), self.lent(), fabric, endpoint, single.into());
+        if read.status != 0 {
+            return Err(Error::of(read.status));
+        }
+        if read.present == 0 {
+            return Ok(None);
+        }
+        Ok(Some(InfoRow {
+            count: read.count,
+            group: read.group,
+            scene: read.scene,
+            valid: read.valid != 0,
+            remaining: read.remaining,
+            fabric: read.fabric,
+        }))
+    }
+
+    /// The field bytes of the scene at a position: none past the entries.
+    ///
+    /// ```
+    /// assert_eq!(scenes::Scenes::<16>::new().field_bytes(0), b"");
+    /// ```
+    pub fn field_bytes(&self, at: usize) -> &[u8] {
+        let found = ffi::field_bytes(self.state(), self.lent(), at);
+        let bytes = self.image.fields.as_flattened();
+        bytes.get(found.offset..).and_then(|rest| rest.get(..found.len)).unwrap_or(&[])
+    }
+
+    /// A scenable attribute changed on an endpoint: no current scene there is valid any more.
+    ///
+    /// ```
+    /// use scenes::{Error, Membership, SceneKey, Scenes};
+    ///
+    /// let mut table = Scenes::<16>::new();
+    /// let key = SceneKey { fabric: 1, endpoint: 1, group: 0, scene: 5 };
+    /// table.store(key, Membership::Yes, b"")?;
+    /// assert!(!table.attribute_changed(1)?.save);
+    /// assert!(table.read_info(1, 1, false)?.is_some_and(|row| !row.valid));
+    /// # Ok::<(), Error>(())
+    /// ```
+    pub fn attribute_changed(&mut self, endpoint: u16) -> Result<Done, Error> {
+        let (state, lent) = self.lend();
+        let done = ffi::attribute_changed(state, lent, endpoint);
+        self.done(done)
+    }
+
+    /// A fabric left: its scenes and its current scene go, and nobody else's.
+    pub fn remove_fabric(&mut self, fabric: u8) -> Result<Done, Error> {
+        let (state, lent) = self.lend();
+        let done = ffi::remove_fabric(state, lent, fabric);
+        self.done(done)
+    }
+
+    /// A factory reset: an empty table, and a step of the data version. The host drops what it had saved.
+    pub fn factory_reset(&mut self) -> Result<Done, Error> {
+        let done = ffi::factory_reset(self.state(), self.lent());
+        self.done(done)
+    }
+
+    /// A startup without a saved table: an empty table at the data version that it had.
+    pub fn startup(&mut self) -> Result<Done, Error> {
+        let done = ffi::startup(self.state(), self.lent());
+        self.done(done)
+    }
+
+    /// The fail-safe was committed: nothing changes.
+    pub fn fail_safe_commit(&mut self) -> Result<Done, Error> {
+        let done = ffi::fail_safe_commit(self.state(), self.lent());
+        self.done(done)
+    }
+
+    /// The fail-safe expired: nothing changes.
+    pub fn fail_safe_expiry(&mut self) -> Result<Done, Error> {
+        let done = ffi::fail_safe_expiry(self.state(), self.lent());
+        self.done(done)
+    }
+
+    pub(crate) fn state(&self) -> State {
+        let Image { entries, recorded, dataver, .. } = self.image;
+        State { size: N, entries, recorded, dataver }
+    }
+
+    pub(crate) fn lent(&self) -> Lent<'_> {
+        let image = &self.image;
+        Lent { keys: &image.keys, times: &image.times, fields: image.fields.as_flattened(), records: &image.records }
+    }
+
+    fn lend(&mut self) -> (State, LentMut<'_>) {
+        let state = self.state();
+        let image = &mut self.image;
+        let fields = image.fields.as_flattened_mut();
+        (state, LentMut { keys: &mut image.keys, times: &mut image.times, fields, records: &mut image.records })
+    }
+
+    // Keeps the head that came back, of refusals too: a whole-group copy that ran out has changed it.
+    fn done(&mut self, outcome: Outcome) -> Result<Done, Error> {
+        self.image.entries = outcome.state.entries;
+        self.image.recorded = outcome.state.recorded;
+        self.image.dataver = outcome.state.dataver;
+        if outcome.status == 0 {
+            Ok(Done { save: outcome.save != 0 })
+        } else {
+            Err(Error::of(outcome.status))
+        }
+    }
+
+    fn scene(&self, read: SceneRead) -> Result<Scene<'_>, Error> {
+        if read.status != 0 {
+            return Err(Error::of(read.status));
+        }
+        Ok(Scene { time: read.time, at: read.at, fields: self.field_bytes(read.at) })
+    }
+}

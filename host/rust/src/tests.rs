@@ -1,0 +1,185 @@
+//! What nothing checks across the boundary: layouts, arguments, lengths; and a table whose memory was damaged.
+// The digits of a key word are grouped by its parts.
+#![allow(clippy::unusual_byte_groupings)]
+use crate::ffi::{self, FieldBytes, InfoRead, Lent, LentMut, ListRead, Outcome, SceneRead, State};
+use crate::*;
+use core::mem::{offset_of, size_of};
+
+// The numbers are those that host/scenes.h holds the C compiler to.
+#[test]
+fn layouts_are_those_of_the_header() {
+    assert_eq!((size_of::<State>(), offset_of!(State, size), offset_of!(State, entries)), (32, 0, 8));
+    assert_eq!((offset_of!(State, recorded), offset_of!(State, dataver)), (16, 24));
+    assert_eq!((size_of::<SceneKey>(), offset_of!(SceneKey, fabric), offset_of!(SceneKey, endpoint)), (8, 0, 2));
+    assert_eq!((offset_of!(SceneKey, group), offset_of!(SceneKey, scene)), (4, 6));
+    assert_eq!((size_of::<GroupKey>(), offset_of!(GroupKey, endpoint), offset_of!(GroupKey, group)), (6, 2, 4));
+    assert_eq!((size_of::<GroupScene>(), offset_of!(GroupScene, group), offset_of!(GroupScene, scene)), (4, 0, 2));
+    assert_eq!((size_of::<CopyRequest>(), offset_of!(CopyRequest, endpoint), offset_of!(CopyRequest, mode)), (14, 2, 4));
+    assert_eq!((offset_of!(CopyRequest, from), offset_of!(CopyRequest, to)), (6, 10));
+    assert_eq!((size_of::<Outcome>(), offset_of!(Outcome, save), offset_of!(Outcome, state)), (40, 1, 8));
+    assert_eq!((size_of::<SceneRead>(), offset_of!(SceneRead, time), offset_of!(SceneRead, at)), (48, 4, 8));
+    assert_eq!((offset_of!(SceneRead, state), offset_of!(ListRead, state)), (16, 16));
+    assert_eq!((size_of::<ListRead>(), offset_of!(ListRead, remaining), offset_of!(ListRead, len)), (48, 1, 8));
+    assert_eq!((size_of::<InfoRead>(), offset_of!(InfoRead, present), offset_of!(InfoRead, count)), (48, 1, 2));
+    assert_eq!((offset_of!(InfoRead, group), offset_of!(InfoRead, scene), offset_of!(InfoRead, valid)), (4, 6, 7));
+    assert_eq!((offset_of!(InfoRead, remaining), offset_of!(InfoRead, fabric), offset_of!(InfoRead, state)), (8, 9, 16));
+    assert_eq!((size_of::<FieldBytes>(), offset_of!(FieldBytes, offset), offset_of!(FieldBytes, len)), (16, 0, 8));
+}
+
+#[test]
+fn the_memory_of_a_table_is_its_arrays() {
+    assert_eq!(size_of::<Image<16>>(), 16 * (8 + 4 + 129 + 8) + 24);
+    assert_eq!(Scenes::<16>::new().lent().fields.len(), 16 * STRIDE);
+}
+
+// Sixteen places, a scene of fabric 0x12 that is its current one, and a scene of fabric 0x34.
+fn two() -> Scenes<16> {
+    let mut table = Scenes::new();
+    let first = SceneKey { fabric: 0x12, endpoint: 0x3456, group: 0x789A, scene: 0xBC };
+    let second = SceneKey { fabric: 0x34, endpoint: 0x5678, group: 0x9ABC, scene: 0xDE };
+    assert!(table.store(first, Membership::Yes, &[1, 2, 3]).is_ok());
+    assert!(table.add(second, 0x0123_4567 >> 1, Membership::Yes, &[1], &[7; MAX_FIELDS]).is_ok());
+    table
+}
+
+// Every part of a key has another byte, so that a part at the wrong place would show.
+#[test]
+fn keys_and_times_arrive_whole() {
+    let image = two().image;
+    assert_eq!(image.keys[..2], [0x12_3456_789A_BC, 0x34_5678_9ABC_DE]);
+    assert_eq!(image.times[..2], [0, 0x0123_4567 >> 1]);
+    assert_eq!(image.fields[0][..5], [4, 1, 2, 3, 0x18]);
+    assert_eq!(image.fields[1][..], [&[128][..], &[7; 128]].concat());
+    assert_eq!(image.records[0], 0x1_12_3456_789A_BC);
+    assert_eq!((image.entries, image.recorded, image.dataver), (2, 1, 1));
+}
+
+#[test]
+fn the_head_comes_back_whole() {
+    let mut table = two();
+    table.image.dataver = u32::MAX;
+    let read = ffi::view(table.state(), table.lent(), SceneKey { fabric: 9, endpoint: 9, group: 0, scene: 9 }, 1);
+    assert_eq!((read.status, read.time, read.at), (0x8B, 0, MAX_SCENES));
+    assert_eq!(read.state, State { size: 16, entries: 2, recorded: 1, dataver: u32::MAX });
+    assert!(table.factory_reset().is_ok());
+    assert_eq!(table.state(), State { size: 16, entries: 0, recorded: 0, dataver: 0 });
+}
+
+#[test]
+fn a_copy_arrives_whole() {
+    let mut table = two();
+    let from = GroupScene { group: 0x789A, scene: 0xBC };
+    let to = GroupScene { group: 0xFEDC, scene: 0xA9 };
+    let request = CopyRequest { fabric: 0x12, endpoint: 0x3456, mode: 0xF0, from, to };
+    assert_eq!(table.copy(request, Membership::Yes, Membership::Yes), Ok(Done { save: true }));
+    assert_eq!(table.image.keys[2], 0x12_3456_FEDC_A9);
+    assert_eq!(table.image.fields[2], table.image.fields[0]);
+}
+
+// What each number means that is no name in Rust.
+#[test]
+fn every_number_means_something() {
+    let table = two();
+    let key = SceneKey { fabric: 0x12, endpoint: 0x3456, group: 0x789A, scene: 0xBC };
+    for member in 0..=255 {
+        let status = ffi::view(table.state(), table.lent(), key, member).status;
+        assert_eq!(status, [0x85, 0, 2][usize::from(member.min(2))]);
+    }
+    for given in 0..=255 {
+        let time = ffi::recall_lookup(table.state(), table.lent(), key, 1, given, 0x89AB_CDEF).time;
+        assert_eq!(time, if given == 0 { 0 } else { 0x89AB_CDEF });
+    }
+    for applied in 0..=255 {
+        let mut copy = two();
+        let image = &mut copy.image;
+        let state = State { size: 16, entries: 2, recorded: 1, dataver: 1 };
+        let lent = LentMut {
+            keys: &mut image.keys,
+            times: &mut image.times,
+            fields: image.fields.as_flattened_mut(),
+            records: &mut image.records,
+        };
+        assert_eq!(ffi::recall(state, lent, key, 1, applied).status, if applied == 1 { 0 } else { 4 });
+    }
+    for single in 0..=255 {
+        assert_eq!(ffi::read_info(table.state(), table.lent(), 0x12, 0x3456, single).status, if single == 0 { 0 } else { 5 });
+    }
+}
+
+// Each slice one element short of N, and each exactly N.
+#[test]
+fn lengths_arrive() {
+    let table = two();
+    let whole = table.lent();
+    let sound = |lent| ffi::is_sound(table.state(), lent);
+    assert_eq!(sound(whole), 1);
+    assert_eq!(sound(Lent { keys: &whole.keys[1..], ..whole }), 0);
+    assert_eq!(sound(Lent { times: &whole.times[1..], ..whole }), 0);
+    assert_eq!(sound(Lent { fields: &whole.fields[..16 * STRIDE - 1], ..whole }), 0);
+    assert_eq!(sound(Lent { records: &whole.records[1..], ..whole }), 0);
+    assert_eq!(sound(Lent { keys: &[], times: &[], fields: &[], records: &[] }), 0);
+    assert_eq!(ffi::is_sound(ffi::new(0), Lent { keys: &[], times: &[], fields: &[], records: &[] }), 1);
+}
+
+// What makes memory unsound, one after the other.
+fn damaged() -> [Scenes<16>; 8] {
+    let damages: [fn(&mut Image<16>); 8] = [
+        |image| image.entries = 17,
+        |image| image.recorded = 17,
+        |image| image.keys[1] = 1 << 48,
+        |image| image.keys[1] = 5,
+        |image| image.fields[0][0] = 129,
+        |image| image.records[0] = 1 << 49,
+        |image| image.records[0] = 1 << 48,
+        |image| image.entries = usize::MAX,
+    ];
+    damages.map(|damage| {
+        let mut table = two();
+        damage(&mut table.image);
+        table
+    })
+}
+
+// 6 comes before every other refusal, so that the inputs here, which have others, do not matter; and nothing is written.
+#[test]
+fn a_damaged_table_is_refused_by_every_call() {
+    for before in damaged() {
+        let mut table = before.clone();
+        let key = SceneKey { fabric: 0, endpoint: 0, group: 1, scene: 0 };
+        let group = GroupKey { fabric: 0, endpoint: 0, group: 1 };
+        let end = GroupScene { group: 1, scene: 0 };
+        let request = CopyRequest { fabric: 0, endpoint: 0, mode: 0, from: end, to: end };
+        let unsound = Err(Error::Unsound);
+        assert!(!table.is_sound());
+        assert_eq!(Scenes::restore(before.image.clone()), Err(Error::Unsound));
+        assert_eq!(table.add(key, 0, Membership::Failed, &[9], &[0; 200]), unsound);
+        assert_eq!(table.store(key, Membership::Failed, &[0; 200]), unsound);
+        assert_eq!(table.view(key, Membership::Failed), Err(Error::Unsound));
+        assert_eq!(table.recall_lookup(key, Membership::Failed, Transition::Stored), Err(Error::Unsound));
+        assert_eq!(table.recall(key, Membership::Failed, Applied::Failed), unsound);
+        assert_eq!(table.remove(key, Membership::Failed), unsound);
+        assert_eq!(table.remove_all(group, Membership::Failed), unsound);
+        assert_eq!(table.copy(request, Membership::Failed, Membership::Failed), unsound);
+        assert_eq!(table.get_membership(group, Membership::Failed, &mut []), Err(Error::Unsound));
+        assert_eq!(table.read_info(0, 0, true), Err(Error::Unsound));
+        assert_eq!(table.field_bytes(0), b"");
+        assert_eq!(table.attribute_changed(0), unsound);
+        assert_eq!(table.remove_fabric(0), unsound);
+        assert_eq!(table.factory_reset(), unsound);
+        assert_eq!(table.startup(), unsound);
+        assert_eq!(table.fail_safe_commit(), unsound);
+        assert_eq!(table.fail_safe_expiry(), unsound);
+        assert_eq!(table, before);
+    }
+}
+
+#[test]
+fn refusals_have_their_numbers() {
+    let numbers = [1, 2, 3, 4, 5, 6, 7, 8, 0x85, 0x87, 0x89, 0x8B];
+    for number in numbers {
+        assert_eq!(Error::of(number).number(), number);
+    }
+    for number in 0..=255 {
+        assert!(numbers.contains(&number) || Error::of(number) == Error::Unsound);
+    }
+}

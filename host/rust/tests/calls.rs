@@ -1,0 +1,242 @@
+//! Every call of the table, and each refusal that it has. Numbers are document 01's.
+use scenes::*;
+
+const YES: Membership = Membership::Yes;
+const SAVED: Result<Done, Error> = Ok(Done { save: true });
+const UNSAVED: Result<Done, Error> = Ok(Done { save: false });
+
+fn key(fabric: u8, group: u16, scene: u8) -> SceneKey {
+    SceneKey { fabric, endpoint: 1, group, scene }
+}
+
+fn group(fabric: u8, group: u16) -> GroupKey {
+    GroupKey { fabric, endpoint: 1, group }
+}
+
+fn copy(mode: u8, from: (u16, u8), to: (u16, u8)) -> CopyRequest {
+    let from = GroupScene { group: from.0, scene: from.1 };
+    let to = GroupScene { group: to.0, scene: to.1 };
+    CopyRequest { fabric: 1, endpoint: 1, mode, from, to }
+}
+
+// A table with the scenes of fabric 1 in group 1.
+fn with<const N: usize>(scenes: &[u8]) -> Scenes<N> {
+    let mut table = Scenes::new();
+    for &scene in scenes {
+        assert_eq!(table.add(key(1, 1, scene), 1000 + u32::from(scene), YES, &[], &[scene]), SAVED);
+    }
+    table
+}
+
+// A refusal changes nothing.
+fn refused<const N: usize>(table: &mut Scenes<N>, number: u8, call: impl Fn(&mut Scenes<N>) -> Result<Done, Error>) {
+    let before = table.clone();
+    assert_eq!(call(table).map_err(Error::number), Err(number));
+    assert_eq!(*table, before);
+}
+
+// The refusals that commands on a scene share, in their order.
+fn refused_keys(call: impl Fn(&mut Scenes<16>, SceneKey, Membership) -> Result<Done, Error>) {
+    let table = &mut with(&[5]);
+    refused(table, 1, |t| call(t, key(0, 1, 0), Membership::Failed));
+    refused(table, 0x87, |t| call(t, key(1, 1, 0), Membership::Failed));
+    refused(table, 0x87, |t| call(t, key(1, 1, 255), Membership::Failed));
+    refused(table, 2, |t| call(t, key(1, 1, 5), Membership::Failed));
+    refused(table, 0x85, |t| call(t, key(1, 1, 5), Membership::No));
+}
+
+// A read in the place of a command.
+fn read<T>(answer: Result<T, Error>) -> Result<Done, Error> {
+    answer.map(|_| Done { save: false })
+}
+
+#[test]
+fn the_example_of_the_requirements() {
+    let table = &mut Scenes::<3>::new();
+    let scene = key(1, 0, 5);
+    assert_eq!(table.add(scene, 1000, YES, &[], b"\x18"), SAVED);
+    assert_eq!((table.entries(), table.data_version()), (1, 0));
+    assert_eq!(table.store(scene, YES, b""), SAVED);
+    assert_eq!((table.entries(), table.data_version()), (1, 1));
+    assert_eq!(table.add(scene, 2000, YES, &[], b"\x18"), SAVED);
+    assert_eq!((table.entries(), table.data_version()), (1, 2));
+    assert_eq!(table.view(scene, YES), Ok(Scene { time: 2000, at: 0, fields: b"\x18" }));
+}
+
+#[test]
+fn add() {
+    refused_keys(|t, k, m| t.add(k, 0, m, &[], &[]));
+    let table = &mut with::<4>(&[5]);
+    refused(table, 0x87, |t| t.add(key(1, 1, 6), MAX_TIME + 1, Membership::Failed, &[], &[]));
+    refused(table, 0x85, |t| t.add(key(1, 1, 6), MAX_TIME, YES, &[2, 1, 0, 9], &[0; 129]));
+    refused(table, 7, |t| t.add(key(1, 1, 6), MAX_TIME, YES, &[2, 1, 3, 0], &[0; 129]));
+    refused(table, 0x89, |t| t.add(key(1, 1, 6), MAX_TIME, YES, &[2, 1], &[0; 129]));
+    assert_eq!(table.add(key(1, 1, 6), MAX_TIME, YES, &[2, 1], &[9; 128]), SAVED);
+    assert_eq!(table.view(key(1, 1, 6), YES), Ok(Scene { time: MAX_TIME, at: 1, fields: &[9; 128] }));
+    assert_eq!(table.add(key(1, 0, 6), 1, Membership::No, &[], &[]), SAVED);
+    assert_eq!(table.add(key(1, 0, 7), 1, YES, &[], &[]), SAVED);
+    refused(table, 0x89, |t| t.add(key(1, 0, 8), 1, YES, &[], &[]));
+    assert_eq!(table.add(key(1, 0, 7), 2, YES, &[], &[]), SAVED);
+    assert_eq!(table.entries(), 4);
+}
+
+#[test]
+fn store() {
+    refused_keys(|t, k, m| t.store(k, m, &[]));
+    let table = &mut with::<2>(&[5]);
+    refused(table, 3, |t| t.store(key(1, 1, 6), YES, &[0; 128]));
+    assert_eq!(table.store(key(1, 1, 6), YES, &[7; 127]), SAVED);
+    assert_eq!(table.store(key(1, 1, 5), YES, &[]), SAVED);
+    refused(table, 0x89, |t| t.store(key(1, 1, 7), YES, &[]));
+    assert_eq!(table.view(key(1, 1, 5), YES), Ok(Scene { time: 1005, at: 0, fields: b"\x18" }));
+    assert_eq!(table.view(key(1, 1, 6), YES).map(|scene| scene.fields.len()), Ok(128));
+    assert_eq!((table.entries(), table.recorded()), (2, 1));
+}
+
+#[test]
+fn view_and_recall() {
+    refused_keys(|t, k, m| read(t.view(k, m)));
+    refused_keys(|t, k, m| read(t.recall_lookup(k, m, Transition::Stored)));
+    refused_keys(|t, k, m| t.recall(k, m, Applied::Failed));
+    let table = &mut with::<16>(&[5, 6]);
+    refused(table, 0x8B, |t| read(t.view(key(1, 1, 7), YES)));
+    refused(table, 0x8B, |t| read(t.recall_lookup(key(1, 1, 7), YES, Transition::Given(1))));
+    refused(table, 0x8B, |t| t.recall(key(1, 1, 7), YES, Applied::Failed));
+    refused(table, 4, |t| t.recall(key(1, 1, 6), YES, Applied::Failed));
+    assert_eq!(table.view(key(1, 1, 6), YES), Ok(Scene { time: 1006, at: 1, fields: &[6] }));
+    assert_eq!(table.recall_lookup(key(1, 1, 6), YES, Transition::Stored), Ok(Scene { time: 1006, at: 1, fields: &[6] }));
+    assert_eq!(table.recall_lookup(key(1, 1, 6), YES, Transition::Given(0)), Ok(Scene { time: 0, at: 1, fields: &[6] }));
+    assert_eq!((table.field_bytes(0), table.field_bytes(1), table.field_bytes(2)), (&[5][..], &[6][..], &[][..]));
+    assert_eq!(table.field_bytes(usize::MAX), b"");
+    assert_eq!(table.recall(key(1, 1, 6), YES, Applied::Yes), SAVED);
+    let row = InfoRow { count: 2, group: 1, scene: 6, valid: true, remaining: 5, fabric: 1 };
+    assert_eq!(table.read_info(1, 1, false), Ok(Some(row)));
+}
+
+#[test]
+fn remove() {
+    refused_keys(|t, k, m| t.remove(k, m));
+    let table = &mut with::<16>(&[5, 6, 7]);
+    refused(table, 0x8B, |t| t.remove(key(1, 1, 8), YES));
+    assert_eq!(table.remove(key(1, 1, 5), YES), SAVED);
+    let mut ids = [0; 3];
+    assert_eq!(table.get_membership(group(1, 1), YES, &mut ids), Ok(SceneList { remaining: 5, ids: &[7, 6] }));
+}
+
+#[test]
+fn remove_all() {
+    let table = &mut with::<16>(&[5, 6, 7]);
+    refused(table, 1, |t| t.remove_all(group(0, 1), Membership::Failed));
+    refused(table, 2, |t| t.remove_all(group(1, 1), Membership::Failed));
+    refused(table, 0x85, |t| t.remove_all(group(1, 1), Membership::No));
+    assert_eq!(table.remove_all(group(1, 2), YES), UNSAVED);
+    assert_eq!(table.remove_all(group(1, 1), YES), SAVED);
+    assert_eq!(table.entries(), 0);
+}
+
+#[test]
+fn copy_one() {
+    let table = &mut with::<16>(&[5, 6]);
+    let with_fabric = |fabric| CopyRequest { fabric, ..copy(0, (1, 0), (2, 0)) };
+    refused(table, 1, |t| t.copy(with_fabric(0), Membership::Failed, Membership::Failed));
+    refused(table, 0x87, |t| t.copy(copy(0, (1, 255), (2, 5)), Membership::Failed, Membership::Failed));
+    refused(table, 0x87, |t| t.copy(copy(0, (1, 5), (2, 0)), Membership::Failed, Membership::Failed));
+    refused(table, 2, |t| t.copy(copy(0, (1, 5), (2, 5)), Membership::Failed, Membership::No));
+    refused(table, 0x85, |t| t.copy(copy(0, (1, 5), (2, 5)), Membership::No, Membership::Failed));
+    refused(table, 2, |t| t.copy(copy(0, (1, 5), (2, 5)), YES, Membership::Failed));
+    refused(table, 0x85, |t| t.copy(copy(0, (1, 5), (2, 5)), YES, Membership::No));
+    refused(table, 0x8B, |t| t.copy(copy(0, (1, 7), (2, 5)), YES, YES));
+    assert_eq!(table.copy(copy(0, (1, 6), (2, 9)), YES, YES), SAVED);
+    assert_eq!(table.view(key(1, 2, 9), YES), Ok(Scene { time: 1006, at: 2, fields: &[6] }));
+}
+
+// Seven places give a fabric three: the copy of the second scene finds no room, and the first stays.
+#[test]
+fn copy_a_group() {
+    let table = &mut with::<7>(&[1, 2]);
+    assert_eq!(table.copy(copy(CopyRequest::ALL, (1, 0), (2, 255)), YES, YES), Err(Error::InsufficientSpace));
+    assert_eq!(table.entries(), 3);
+    refused(table, 0x89, |t| t.copy(copy(CopyRequest::ALL, (1, 0), (2, 0)), YES, YES));
+    let table = &mut with::<16>(&[1, 2]);
+    refused(table, 0x8B, |t| t.copy(copy(CopyRequest::ALL, (3, 0), (2, 0)), YES, YES));
+    assert_eq!(table.copy(copy(CopyRequest::ALL, (1, 0), (2, 0)), YES, YES), SAVED);
+    assert_eq!(table.entries(), 4);
+    assert_eq!(table.view(key(1, 2, 2), YES), Ok(Scene { time: 1002, at: 3, fields: &[2] }));
+}
+
+#[test]
+fn get_membership() {
+    let table = &mut with::<16>(&[9, 3]);
+    refused(table, 1, |t| read(t.get_membership(group(0, 1), Membership::Failed, &mut [])));
+    refused(table, 2, |t| read(t.get_membership(group(1, 1), Membership::Failed, &mut [])));
+    refused(table, 0x85, |t| read(t.get_membership(group(1, 1), Membership::No, &mut [])));
+    let mut ids = [0xEE; 4];
+    refused(table, 8, |t| read(t.get_membership(group(1, 1), YES, &mut [0])));
+    assert_eq!(table.get_membership(group(1, 1), YES, &mut ids), Ok(SceneList { remaining: 5, ids: &[9, 3] }));
+    assert_eq!(ids, [9, 3, 0xEE, 0xEE]);
+    assert_eq!(table.get_membership(group(1, 0), Membership::No, &mut []), Ok(SceneList { remaining: 5, ids: &[] }));
+}
+
+#[test]
+fn read_info() {
+    let table = &mut with::<16>(&[9]);
+    refused(table, 1, |t| read(t.read_info(0, 1, true)));
+    refused(table, 5, |t| read(t.read_info(1, 1, true)));
+    assert_eq!(table.read_info(2, 1, false), Ok(None));
+    let row = InfoRow { count: 1, group: 0, scene: 0, valid: false, remaining: 6, fabric: 1 };
+    assert_eq!(table.read_info(1, 1, false), Ok(Some(row)));
+    assert_eq!(table.store(key(1, 513, 9), YES, &[]), SAVED);
+    let row = InfoRow { count: 2, group: 513, scene: 9, valid: true, remaining: 5, fabric: 1 };
+    assert_eq!(table.read_info(1, 1, false), Ok(Some(row)));
+    assert_eq!(table.attribute_changed(2), UNSAVED);
+    assert_eq!(table.read_info(1, 1, false), Ok(Some(row)));
+    assert_eq!(table.attribute_changed(1), UNSAVED);
+    assert_eq!(table.read_info(1, 1, false), Ok(Some(InfoRow { valid: false, ..row })));
+}
+
+// The release check: what a fabric stored goes with it, and nobody else's.
+#[test]
+fn remove_fabric() {
+    let table = &mut Scenes::<16>::new();
+    assert_eq!(table.store(key(1, 1, 5), YES, b"one"), SAVED);
+    assert_eq!(table.store(key(2, 1, 5), YES, b"two"), SAVED);
+    refused(table, 1, |t| t.remove_fabric(0));
+    assert_eq!(table.remove_fabric(3), UNSAVED);
+    assert_eq!(table.remove_fabric(1), SAVED);
+    assert_eq!((table.entries(), table.recorded()), (1, 1));
+    assert_eq!(table.view(key(1, 1, 5), YES), Err(Error::NotFound));
+    assert_eq!(table.read_info(1, 1, false), Ok(None));
+    assert_eq!(table.view(key(2, 1, 5), YES), Ok(Scene { time: 0, at: 0, fields: b"two\x18" }));
+}
+
+#[test]
+fn lifecycle() {
+    let table = &mut with::<16>(&[5]);
+    assert_eq!(table.store(key(1, 1, 6), YES, &[]), SAVED);
+    let before = table.clone();
+    assert_eq!((table.fail_safe_commit(), table.fail_safe_expiry()), (UNSAVED, UNSAVED));
+    assert_eq!(*table, before);
+    assert_eq!(table.startup(), UNSAVED);
+    assert_eq!((table.entries(), table.recorded(), table.data_version()), (0, 0, 1));
+    assert_eq!(table.factory_reset(), UNSAVED);
+    assert_eq!((table.entries(), table.recorded(), table.data_version()), (0, 0, 2));
+}
+
+#[test]
+fn a_saved_table_comes_back() {
+    let table = with::<16>(&[5, 6, 7]);
+    assert_eq!(Scenes::restore(table.image().clone()), Ok(table));
+}
+
+#[test]
+fn the_smallest_and_the_largest_table() {
+    let table = &mut Scenes::<0>::new();
+    refused(table, 0x89, |t| t.add(key(1, 1, 5), 0, YES, &[], &[]));
+    assert_eq!(table.remove_fabric(1), UNSAVED);
+    let table = &mut Scenes::<MAX_SCENES>::default();
+    for i in 0..MAX_SCENES as u16 {
+        assert_eq!(table.add(key(1, i, 1), 0, YES, &[], &[]), SAVED);
+    }
+    refused(table, 0x89, |t| t.add(key(1, 2000, 1), 0, YES, &[], &[]));
+    assert!(table.is_sound());
+}
