@@ -8,7 +8,7 @@ use mathlib.Core.Logic.{⊎-elim}
 use native.Mathlib.Nat.{zero-add, not-suc-le-zero, le-of-suc-le-suc, eq-or-lt-of-le}
 use native.Mathlib.Omega.{arith}
 use lib.Dec.{ltb, leb}
-use borrow.Author.Tests.{le-leb, lt-leb, leb-true, leb-false}
+use borrow.Author.Tests.{lt-ltb, le-ltb, le-leb, lt-leb, leb-true, leb-false}
 use lib.ListN.{length, take, drop, take-append-drop, getD, set, length-append, length-set, length-drop, length-map, List·getD-append}
 use lib.Seq.{paste, paste-zero, paste-suc, drop-paste, length-paste, drop-at, drop-cons, take-length, length-take-le, take-suc-set, drop-set-lt, append-snoc, set-split, drop-drop, take-append-seam, drop-append-seam, getD-drop, getD-take}
 use Rattle.words.proofs.Tests.{and-intro, and-false}
@@ -29,6 +29,14 @@ key-tested key =
       | true ↦ λ e. let h = leb-true (2 ^ 40) key e in sym (le-leb 1 (fabricOf key) (omega arith))
       | false ↦ λ e. let h = leb-false (2 ^ 40) key e in sym (lt-leb 1 (fabricOf key) (omega arith))
     ]) refl)
+
+-- above a number is not at most it
+pub over-tested : (m x : ℕ) → ltb m x ≡ not (leb x m)
+over-tested m x =
+    (elim (leb x m) as (λ b. leb x m ≡ b → ltb m x ≡ not b) [
+      | true ↦ λ e. le-ltb m x (leb-true x m e)
+      | false ↦ λ e. lt-ltb m x (leb-false x m e)
+    ]) refl
 
 -- ---- lists that are alike from a position on
 

@@ -5,10 +5,11 @@ use words::KeyWord;
 use words::Limits;
 use words::Slot;
 ghost use mathlib.Core.Path.{_≡_};
+ghost use mathlib.Core.Bool.{true, not};
 ghost use Prim.Native.Nat.{_+_, _*_, _<_, _≤_};
 ghost use lib.ListN.{length, getD};
 ghost use Rattle.words.specs.Constants.{stride, maxFields};
-ghost use lib.Dec.{eqb};
+ghost use lib.Dec.{eqb, leb};
 ghost use Rattle.words.specs.Below.{anyBelow};
 ghost use Rattle.words.specs.declared.Found.the-variants.{Nothing};
 ghost use Rattle.slots.specs.Slots.{firstKey, countKeys, keysSound, lengthsSound, lengthAt, fieldsAt, overlay, slotsOf, putSlot, copySlot, lengthThen, part, outside, gathered, laid, scenesInside};
@@ -90,19 +91,53 @@ pub fn keys_sound(keys: &[u64], n: usize) -> bool
     sound
 }
 
+// Whether the entry at a position has more field bytes than there is room for.
+fn is_too_long(fields: &[u8], at: usize) -> bool
+    requires { ⌜ at * stride + stride ≤ length (now fields) ⌝ }
+    ensures { λ r. ⌜ r ≡ not (leb (lengthAt (now (fields .entry)) at) maxFields) ⌝ }
+{
+    Limits::MAX_EXT_FIELDS_LEN < fields[at * Slot::STRIDE] as usize
+}
+
+// Whether one of the four entries from a position on is too long.
+fn too_long_in_block(fields: &[u8], at: usize) -> bool
+    requires { ⌜ (at + 4) * stride ≤ length (now fields) ⌝ }
+    ensures { λ r. ⌜ r ≡ anyBelow (λ j. not (leb (lengthAt (now (fields .entry)) (at + j)) maxFields)) 4 ⌝ }
+{
+    is_too_long(fields, at)
+        | is_too_long(fields, at + 1)
+        | is_too_long(fields, at + 2)
+        | is_too_long(fields, at + 3)
+}
+
+// A position of the first n, found in steps of four, below which every length is sound.
+fn sound_blocks(fields: &[u8], n: usize) -> usize
+    requires { ⌜ n * stride ≤ length (now fields) ⌝ }
+    ensures { λ r. ⌜ (r ≤ n) × (lengthsSound (now (fields .entry)) r ≡ true) ⌝ }
+{
+    let mut i = 0;
+    while 4 <= n - i {
+        if too_long_in_block(fields, i) {
+            return i;
+        }
+        i += 4;
+    }
+    i
+}
+
 // Whether each of the first n entries has at most as many field bytes as there is room for.
 pub fn lengths_sound(fields: &[u8], n: usize) -> bool
     requires { ⌜ n * stride ≤ length (now fields) ⌝ }
     ensures { λ r. ⌜ r ≡ lengthsSound (now (fields .entry)) n ⌝ }
 {
-    let mut sound = true;
-    let mut i = 0;
+    let mut i = sound_blocks(fields, n);
     while i < n {
-        let len = fields[i * Slot::STRIDE] as usize;
-        sound = sound & (len <= Limits::MAX_EXT_FIELDS_LEN);
+        if is_too_long(fields, i) {
+            return false;
+        }
         i += 1;
     }
-    sound
+    true
 }
 
 // The field bytes of the entry at a position, up to its length: a part of the lent slice.

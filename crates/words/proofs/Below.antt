@@ -1,7 +1,7 @@
 -- The laws of the positions below a count. Assumes nothing.
 use Prim.Native.Nat.{ℕ, zero, suc, _+_, _≤_, _<_}
 use mathlib.Core.Path.{_≡_, refl, sym, ap, ap₂, subst, _∙_}
-use mathlib.Core.Bool.{Bool, true, false, cond, _&&_, false≢true}
+use mathlib.Core.Bool.{Bool, true, false, not, cond, _&&_, false≢true}
 use mathlib.Core.List.{List, [], _∷_, _++_}
 use mathlib.Core.Logic.{⊎-elim}
 use native.Mathlib.Numerals.{add-one}
@@ -11,7 +11,7 @@ use lib.ListN.{length, getD, length-append}
 use Rattle.words.specs.Below.{everyBelow, anyBelow, countBelow, keptBelow, firstBelow, orElse}
 use Rattle.words.specs.declared.Found.{Found}
 use Rattle.words.specs.declared.Found.the-variants.{At, Nothing}
-use Rattle.words.proofs.Tests.{and-intro, and-false, or-true, or-false, neither-left, neither-right}
+use Rattle.words.proofs.Tests.{and-intro, and-false, or-true, or-false, neither-left, neither-right, not-false}
 
 -- what holds of each element, and of one more behind them
 each-more : (P : ℕ → Type 0) (xs : List ℕ) (x : ℕ) → ((k : ℕ) → k < length xs → P (getD xs k 0)) → P x → (k : ℕ) → k < length (xs ++ (x ∷ [])) → P (getD (xs ++ (x ∷ [])) k 0)
@@ -40,6 +40,14 @@ module _ (p : ℕ → Bool) where
   pub every-next : (i : ℕ) (b t : Bool) → b ≡ everyBelow p i → t ≡ p i → (b && t) ≡ everyBelow p (i + 1)
   unfolding everyBelow
   every-next i b t h e = rw (add-one) (ap₂ (λ (x y : Bool). x && y) h e)
+
+  -- a block of k positions from i on at none of which p fails
+  pub every-block : (i k : ℕ) → anyBelow (λ j. not (p (i + j))) k ≡ false → everyBelow p i ≡ true → everyBelow p (i + k) ≡ true
+  unfolding anyBelow
+  every-block i zero e h = subst (λ m. everyBelow p m ≡ true) (omega arith) h
+  every-block i (suc k) e h =
+      let more = every-more (i + k) (every-block i k (neither-left _ (not (p (i + k))) e) h) (not-false (p (i + k)) (neither-right (anyBelow (λ j. not (p (i + j))) k) _ e)) in
+      subst (λ m. everyBelow p m ≡ true) (omega arith) more
 
   -- the loop that stops at i
   pub every-fails : (n i : ℕ) → i < n → p i ≡ false → everyBelow p n ≡ false
