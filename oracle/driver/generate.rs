@@ -157,16 +157,35 @@ fn recall(random: &mut Random, u: &Universe) -> String {
     format!("L {key} {} {time} {}", member(random), random.percent(75) as u8)
 }
 
-/// The letters of calls, each as often as it weighs.
-const SMALL_CALLS: &[u8] = b"AAAAAAAAAAAAAAAASSSSSSSSSSSSVVVVVRRRRRXXXXCCCCCCCCCCCCCCLLLLLLLLLLLLMMMMMIIIIITTTTFFWE";
-const LARGE_CALLS: &[u8] = b"AAAAASSSSVVRRXXCCCCCCCCCCLLLMMMMIIIITTF";
+/// The letters of calls, each with its weight.
+#[rustfmt::skip]
+const SMALL_CALLS: &[(char, usize)] = &[
+    ('A', 16), ('S', 12), ('V', 5), ('R', 5), ('X', 4), ('C', 14), ('L', 12), ('M', 5), ('I', 5), ('T', 4),
+    ('F', 2), ('W', 1), ('E', 1),
+];
+#[rustfmt::skip]
+const LARGE_CALLS: &[(char, usize)] = &[
+    ('A', 5), ('S', 4), ('V', 2), ('R', 2), ('X', 2), ('C', 10), ('L', 3), ('M', 4), ('I', 4), ('T', 2),
+    ('F', 1),
+];
 
-fn call(random: &mut Random, u: &mut Universe, letters: &[u8]) -> String {
+fn weighted(random: &mut Random, letters: &[(char, usize)]) -> char {
+    let mut at = random.below(letters.iter().map(|(_, weight)| weight).sum());
+    for (letter, weight) in letters {
+        if at < *weight {
+            return *letter;
+        }
+        at -= weight;
+    }
+    unreachable!("the weights are summed up above")
+}
+
+fn call(random: &mut Random, u: &mut Universe, letters: &[(char, usize)]) -> String {
     // Rare, since they empty the table.
     if random.below(150) == 0 {
         return random.pick(&["Z", "U"]).into();
     }
-    let letter = random.pick(letters) as char;
+    let letter = weighted(random, letters);
     match letter {
         'A' => add(random, u),
         'S' => format!("S {} {} {}", u.target(random).words(), member(random), hex(&fields::captured(random))),

@@ -196,7 +196,8 @@ fn run(
     }
 }
 
-// scenebench: adds, stores and views on a table of at most 256 scenes.
+// scenebench: adds, stores and views on a table of at most 256 scenes. No contract can say what is read and written; that it ends and
+// stays within its memory is proved of it as of any function.
 pub fn bench() {
     let mut keys = [0u64; 256];
     let mut times = [0u32; 256];
@@ -219,7 +220,7 @@ pub fn bench() {
     );
 }
 
-// scenetrace: every call, on a table of at most 1,024 scenes.
+// scenetrace: every call, on a table of at most 1,024 scenes. No contract, as above.
 pub fn trace() {
     let mut keys = [0u64; 1024];
     let mut times = [0u32; 1024];

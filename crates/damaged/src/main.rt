@@ -193,6 +193,26 @@ fn read(status: u8, state: ScenesState) -> Done {
     }
 }
 
+fn group() -> GroupKey {
+    GroupKey {
+        fabric: 1,
+        endpoint: 1,
+        group: 0,
+    }
+}
+
+fn copied() -> CopyRequest {
+    let from = GroupScene { group: 0, scene: 5 };
+    let to = GroupScene { group: 1, scene: 6 };
+    CopyRequest {
+        fabric: 1,
+        endpoint: 1,
+        mode: 0,
+        from,
+        to,
+    }
+}
+
 // The commands that change the table.
 fn command(
     call: u8,
@@ -202,53 +222,15 @@ fn command(
     fields: &mut [u8],
     records: &mut [u64],
 ) -> Done {
-    let at = GroupScene { group: 0, scene: 5 };
-    let to = GroupScene { group: 1, scene: 6 };
-    let copied = CopyRequest {
-        fabric: 1,
-        endpoint: 1,
-        mode: 0,
-        from: at,
-        to,
-    };
-    let group = GroupKey {
-        fabric: 1,
-        endpoint: 1,
-        group: 0,
-    };
+    let yes = Membership::Yes;
+    let applied = Applied::Yes;
     match call {
-        0 => outcome(state.add_scene(
-            keys,
-            times,
-            fields,
-            records,
-            key(),
-            9,
-            Membership::Yes,
-            b"",
-            b"\x18",
-        )),
-        1 => outcome(state.store_scene(keys, times, fields, records, key(), Membership::Yes, b"")),
-        2 => outcome(state.remove_scene(keys, times, fields, records, key(), Membership::Yes)),
-        3 => outcome(state.remove_all_scenes(keys, times, fields, records, group, Membership::Yes)),
-        4 => outcome(state.copy_scene(
-            keys,
-            times,
-            fields,
-            records,
-            copied,
-            Membership::Yes,
-            Membership::Yes,
-        )),
-        _ => outcome(state.recall_scene(
-            keys,
-            times,
-            fields,
-            records,
-            key(),
-            Membership::Yes,
-            Applied::Yes,
-        )),
+        0 => outcome(state.add_scene(keys, times, fields, records, key(), 9, yes, b"", b"\x18")),
+        1 => outcome(state.store_scene(keys, times, fields, records, key(), yes, b"")),
+        2 => outcome(state.remove_scene(keys, times, fields, records, key(), yes)),
+        3 => outcome(state.remove_all_scenes(keys, times, fields, records, group(), yes)),
+        4 => outcome(state.copy_scene(keys, times, fields, records, copied(), yes, yes)),
+        _ => outcome(state.recall_scene(keys, times, fields, records, key(), yes, applied)),
     }
 }
 
@@ -279,7 +261,15 @@ fn sound_status(sound: bool) -> u8 {
     words::Fault::UNSOUND
 }
 
-// The reads. The field bytes of the second entry are one byte in a sound table and none in any other.
+fn list(state: ScenesState, keys: &[u64], times: &[u32], fields: &[u8], records: &[u64]) -> Done {
+    let yes = Membership::Yes;
+    let mut ids = [0u8; 3];
+    let listed = state.get_scene_membership(keys, times, fields, records, &mut ids, group(), yes);
+    let after = listed.state;
+    read(listed.status, after)
+}
+
+// The reads.
 fn query(
     call: u8,
     state: ScenesState,
@@ -288,58 +278,43 @@ fn query(
     fields: &[u8],
     records: &[u64],
 ) -> Done {
-    let group = GroupKey {
-        fabric: 1,
-        endpoint: 1,
-        group: 0,
-    };
-    let mut ids = [0u8; 3];
+    let yes = Membership::Yes;
+    let stored = Transition::Stored;
     match call {
         12 => {
-            let found = state.view_scene(keys, times, fields, records, key(), Membership::Yes);
+            let found = state.view_scene(keys, times, fields, records, key(), yes);
             let after = found.state;
             read(found.status, after)
         }
         13 => {
-            let found = state.recall_lookup(
-                keys,
-                times,
-                fields,
-                records,
-                key(),
-                Membership::Yes,
-                Transition::Stored,
-            );
+            let found = state.recall_lookup(keys, times, fields, records, key(), yes, stored);
             let after = found.state;
             read(found.status, after)
         }
-        14 => {
-            let listed = state.get_scene_membership(
-                keys,
-                times,
-                fields,
-                records,
-                &mut ids,
-                group,
-                Membership::Yes,
-            );
-            let after = listed.state;
-            read(listed.status, after)
-        }
-        15 => {
+        14 => list(state, keys, times, fields, records),
+        _ => {
             let row = state.read_fabric_scene_info(keys, times, fields, records, 1, 1, false);
             let after = row.state;
             read(row.status, after)
         }
-        16 => read(
-            sound_status(state.is_sound(keys, times, fields, records)),
-            state,
-        ),
-        _ => {
-            let bytes = state.field_bytes(keys, times, fields, records, 1);
-            read(sound_status(bytes.len() == 1), state)
-        }
     }
+}
+
+// The two calls that answer no status. The field bytes of the second entry are one byte in a sound table and none in any other.
+fn test(
+    call: u8,
+    state: ScenesState,
+    keys: &[u64],
+    times: &[u32],
+    fields: &[u8],
+    records: &[u64],
+) -> Done {
+    if call == 16 {
+        let sound = state.is_sound(keys, times, fields, records);
+        return read(sound_status(sound), state);
+    }
+    let bytes = state.field_bytes(keys, times, fields, records, 1);
+    read(sound_status(bytes.len() == 1), state)
 }
 
 fn make(
@@ -356,7 +331,10 @@ fn make(
     if call < 12 {
         return event(call, state, keys, times, fields, records);
     }
-    query(call, state, keys, times, fields, records)
+    if call < 16 {
+        return query(call, state, keys, times, fields, records);
+    }
+    test(call, state, keys, times, fields, records)
 }
 
 // Makes a call on the memory, one slice of which is a little too short in rows 4 to 7.
