@@ -102,29 +102,30 @@ struct scenes_copy_request {
 
 /* `save`: the host has to save the table. */
 struct scenes_outcome {
+    struct scenes_state state;
     uint8_t status;
     bool save;
-    struct scenes_state state;
 };
 
 /* A scene's time, and its position, for scenes_field_bytes. A refusal has time 0 and position 1024, where no table has an entry. */
 struct scenes_scene_read {
+    struct scenes_state state;
     uint8_t status;
     uint32_t time;
     size_t at;
-    struct scenes_state state;
 };
 
 /* The remaining capacity, and how many scene ids were written. */
 struct scenes_list_read {
+    struct scenes_state state;
     uint8_t status;
     uint8_t remaining;
     size_t len;
-    struct scenes_state state;
 };
 
 /* Whether there is a row, and the row. */
 struct scenes_info_read {
+    struct scenes_state state;
     uint8_t status;
     bool present;
     uint8_t count;
@@ -133,7 +134,6 @@ struct scenes_info_read {
     bool valid;
     uint8_t remaining;
     uint8_t fabric;
-    struct scenes_state state;
 };
 
 /* Where field bytes lie: `len` bytes from `fields + offset` on, all of them within the lent count. */
@@ -151,19 +151,19 @@ SCENES_ASSERT(sizeof(struct scenes_group_scene) == 4 && offsetof(struct scenes_g
 SCENES_ASSERT(sizeof(struct scenes_copy_request) == 14 && offsetof(struct scenes_copy_request, mode) == 4 &&
                   offsetof(struct scenes_copy_request, from) == 6 && offsetof(struct scenes_copy_request, to) == 10,
               "scenes_copy_request");
-SCENES_ASSERT(sizeof(struct scenes_outcome) == 40 && offsetof(struct scenes_outcome, save) == 1 && offsetof(struct scenes_outcome, state) == 8,
+SCENES_ASSERT(sizeof(struct scenes_outcome) == 40 && offsetof(struct scenes_outcome, status) == 32 && offsetof(struct scenes_outcome, save) == 33,
               "scenes_outcome");
-SCENES_ASSERT(sizeof(struct scenes_scene_read) == 48 && offsetof(struct scenes_scene_read, time) == 4 &&
-                  offsetof(struct scenes_scene_read, at) == 8 && offsetof(struct scenes_scene_read, state) == 16,
+SCENES_ASSERT(sizeof(struct scenes_scene_read) == 48 && offsetof(struct scenes_scene_read, status) == 32 &&
+                  offsetof(struct scenes_scene_read, time) == 36 && offsetof(struct scenes_scene_read, at) == 40,
               "scenes_scene_read");
-SCENES_ASSERT(sizeof(struct scenes_list_read) == 48 && offsetof(struct scenes_list_read, remaining) == 1 &&
-                  offsetof(struct scenes_list_read, len) == 8 && offsetof(struct scenes_list_read, state) == 16,
+SCENES_ASSERT(sizeof(struct scenes_list_read) == 48 && offsetof(struct scenes_list_read, status) == 32 &&
+                  offsetof(struct scenes_list_read, remaining) == 33 && offsetof(struct scenes_list_read, len) == 40,
               "scenes_list_read");
-SCENES_ASSERT(sizeof(struct scenes_info_read) == 48 && offsetof(struct scenes_info_read, present) == 1 &&
-                  offsetof(struct scenes_info_read, count) == 2 && offsetof(struct scenes_info_read, group) == 4 &&
-                  offsetof(struct scenes_info_read, scene) == 6 && offsetof(struct scenes_info_read, valid) == 7 &&
-                  offsetof(struct scenes_info_read, remaining) == 8 && offsetof(struct scenes_info_read, fabric) == 9 &&
-                  offsetof(struct scenes_info_read, state) == 16,
+SCENES_ASSERT(sizeof(struct scenes_info_read) == 48 && offsetof(struct scenes_info_read, status) == 32 &&
+                  offsetof(struct scenes_info_read, present) == 33 && offsetof(struct scenes_info_read, count) == 34 &&
+                  offsetof(struct scenes_info_read, group) == 36 && offsetof(struct scenes_info_read, scene) == 38 &&
+                  offsetof(struct scenes_info_read, valid) == 39 && offsetof(struct scenes_info_read, remaining) == 40 &&
+                  offsetof(struct scenes_info_read, fabric) == 41,
               "scenes_info_read");
 SCENES_ASSERT(sizeof(struct scenes_field_bytes) == 16 && offsetof(struct scenes_field_bytes, len) == 8, "scenes_field_bytes");
 

@@ -3,12 +3,14 @@
 #[macro_use]
 mod quiet;
 
+mod counter;
 mod dm;
 #[allow(dead_code)]
 #[path = "../rust/src/ffi.rs"]
 mod ffi;
 mod ours;
 mod persist;
+mod picture;
 mod published;
 mod report;
 #[allow(dead_code)]

@@ -1,12 +1,19 @@
 //! Fills the tables, measures every row, and prints Markdown.
+use crate::counter::{Caller, Counts};
 use crate::ours::Ours;
+use crate::picture::{self, Panel};
 use crate::published::Published;
-use crate::rows::{fill, rows, Plan};
-use crate::timer;
+use crate::rows::{fill, rows, Plan, Row, Side};
+use crate::timer::Timer;
+
+/// What a call of either side costs, without what a call costs that does nothing.
+pub trait Meter {
+    fn pair<A: Side, B: Side>(&mut self, a: &mut A, b: &mut B, plan: Plan, ra: &Row<A>, rb: &Row<B>) -> (f64, f64);
+}
 
 const ABOUT: &str = "
 Each cell has ours, the Rust's, and their ratio: below 1 ours is faster. A number in brackets behind a row's name is a refusal, which both
-answer. A time is the median of 4,025 single calls, less that of a call that does nothing; the sides take turns. The table is in the cache.
+answer. A time is the median of 20,025 single calls, less that of a call that does nothing; the sides take turns. The table is in the cache.
 
 Ours: the call as a host makes it through the static library, with the test that the whole table is sound. A recall is two calls, and so
 is a view whose fields are copied. The Rust: the handler of the published scenes.rs, compiled with the driver, without a soundness test.
@@ -24,7 +31,7 @@ struct Cell {
     status: u8,
 }
 
-fn measure<const N: usize>(entries: usize, tick: f64) -> Vec<Cell> {
+fn measure<const N: usize>(entries: usize, meter: &mut impl Meter) -> Vec<Cell> {
     let mut ours = Ours::new(N);
     let mut published = Published::<N>::new();
     fill(&mut ours, entries);
@@ -34,28 +41,27 @@ fn measure<const N: usize>(entries: usize, tick: f64) -> Vec<Cell> {
     for (a, b) in rows().iter().zip(&rows()) {
         let status = (a.call)(&mut ours, plan);
         assert_eq!(status, (b.call)(&mut published, plan), "{}: the two sides answer differently", a.name);
-        crate::rows::Side::restore(&mut ours);
-        crate::rows::Side::restore(&mut published);
-        let (ours, published) = timer::pair(&mut ours, &mut published, plan, a, b);
-        cells.push(Cell { ours: ours * tick, published: published * tick, status });
+        ours.restore();
+        published.restore();
+        let (ours, published) = meter.pair(&mut ours, &mut published, plan, a, b);
+        cells.push(Cell { ours, published, status });
     }
     cells
 }
 
 /// The cells of a size.
-fn sized(size: usize, part: usize, tick: f64) -> Vec<Cell> {
+fn sized(size: usize, part: usize, meter: &mut impl Meter) -> Vec<Cell> {
     let entries = size * part / 2;
     match size {
-        16 => measure::<16>(entries, tick),
-        64 => measure::<64>(entries, tick),
-        256 => measure::<256>(entries, tick),
-        _ => measure::<1024>(entries, tick),
+        16 => measure::<16>(entries, meter),
+        64 => measure::<64>(entries, meter),
+        256 => measure::<256>(entries, meter),
+        _ => measure::<1024>(entries, meter),
     }
 }
 
-fn print(title: &str, part: usize, tick: f64) {
-    let columns: Vec<_> = SIZES.iter().map(|&size| sized(size, part, tick)).collect();
-    println!("\n## {title}\n");
+fn print(title: &str, columns: &[Vec<Cell>]) {
+    println!("\n### {title}\n");
     println!("| call | N 16: ours, Rust, ratio | N 64 | N 256 | N 1,024 | growth 16 to 1,024: ours, Rust |");
     println!("|---|---|---|---|---|---|");
     for (i, row) in rows::<Ours>().iter().enumerate() {
@@ -78,12 +84,42 @@ fn machine() -> String {
     line.and_then(|line| line.split(": ").nth(1)).unwrap_or("an unknown processor").into()
 }
 
+/// A table for each of three fillings. The cells of the first.
+fn tables(meter: &mut impl Meter) -> Vec<Vec<Cell>> {
+    let mut all = [("Full tables", 2), ("Half full tables", 1), ("Empty tables", 0)].map(|(title, part)| {
+        let columns: Vec<_> = SIZES.iter().map(|&size| sized(size, part, meter)).collect();
+        print(title, &columns);
+        columns
+    });
+    std::mem::take(&mut all[0])
+}
+
+fn panels(columns: &[Vec<Cell>]) -> Vec<Panel> {
+    let costs = |i: usize, cost: fn(&Cell) -> f64| columns.iter().map(|column| cost(&column[i])).collect();
+    let rows = rows::<Ours>();
+    rows.iter()
+        .enumerate()
+        .map(|(i, row)| Panel { name: row.name, ours: costs(i, |c| c.ours), published: costs(i, |c| c.published) })
+        .collect()
+}
+
+/// `times PICTURE`: nanoseconds. `calls`: the calls alone, for callgrind. `counts FOLDER`: what callgrind counted.
 pub fn main() {
-    let tick = timer::tick();
-    println!("# Nanoseconds of a call: ours and the published Rust\n");
-    println!("Measured on {}; a time stamp tick is {tick:.3} ns.", machine());
-    println!("{ABOUT}");
-    print("Full tables", 2, tick);
-    print("Half full tables", 1, tick);
-    print("Empty tables", 0, tick);
+    let arguments: Vec<String> = std::env::args().skip(1).collect();
+    match arguments.iter().map(String::as_str).collect::<Vec<_>>()[..] {
+        ["times", picture] => {
+            let mut timer = Timer::new();
+            println!("# Ours and the published Rust\n");
+            println!("Measured on {}; a time stamp tick is {:.3} ns.", machine(), timer.tick);
+            println!("{ABOUT}\n\n## Nanoseconds of a call");
+            let full = tables(&mut timer);
+            std::fs::write(picture, picture::svg(&panels(&full), &SIZES)).unwrap();
+        }
+        ["calls"] => drop(tables(&mut Caller)),
+        ["counts", folder] => {
+            println!("\n## Instructions of a call");
+            tables(&mut Counts { folder: folder.into(), read: 0 });
+        }
+        _ => panic!("usage: compare times PICTURE | calls | counts FOLDER"),
+    }
 }

@@ -3,11 +3,12 @@ use std::arch::x86_64::{_mm_lfence, _rdtsc};
 use std::hint::black_box;
 use std::time::{Duration, Instant};
 
+use crate::report::Meter;
 use crate::rows::{Plan, Row, Side};
 
 /// A round is so many calls of one side and then of the other, so that a change of the machine's pace meets both.
 const CALLS: usize = 25;
-const ROUNDS: usize = 161;
+const ROUNDS: usize = 801;
 
 fn now() -> u64 {
     // SAFETY: every x86-64 processor has both.
@@ -19,11 +20,17 @@ fn now() -> u64 {
     }
 }
 
-/// Nanoseconds of a tick.
-pub fn tick() -> f64 {
-    let (start, from) = (Instant::now(), now());
-    while start.elapsed() < Duration::from_millis(100) {}
-    start.elapsed().as_nanos() as f64 / (now() - from) as f64
+/// Measures nanoseconds, of which it knows how many a tick of the time stamp has.
+pub struct Timer {
+    pub tick: f64,
+}
+
+impl Timer {
+    pub fn new() -> Self {
+        let (start, from) = (Instant::now(), now());
+        while start.elapsed() < Duration::from_millis(100) {}
+        Self { tick: start.elapsed().as_nanos() as f64 / (now() - from) as f64 }
+    }
 }
 
 fn round<S: Side>(side: &mut S, plan: Plan, writes: bool, call: fn(&mut S, Plan) -> u8, ticks: &mut Vec<u64>) {
@@ -44,20 +51,21 @@ fn median(ticks: &mut [u64]) -> f64 {
     ticks[ticks.len() / 2] as f64
 }
 
-/// Ticks of a call of either side, without those of a call that does nothing.
-pub fn pair<A: Side, B: Side>(a: &mut A, b: &mut B, plan: Plan, ra: &Row<A>, rb: &Row<B>) -> (f64, f64) {
-    let (mut ta, mut tb, mut idle) = (Vec::new(), Vec::new(), Vec::new());
-    for warm in [true, false] {
-        ta.clear();
-        tb.clear();
-        for _ in 0..if warm { 4 } else { ROUNDS } {
-            round(a, plan, ra.writes, ra.call, &mut ta);
-            round(b, plan, rb.writes, rb.call, &mut tb);
-            round(a, plan, false, |_, _| 0, &mut idle);
+impl Meter for Timer {
+    fn pair<A: Side, B: Side>(&mut self, a: &mut A, b: &mut B, plan: Plan, ra: &Row<A>, rb: &Row<B>) -> (f64, f64) {
+        let (mut ta, mut tb, mut idle) = (Vec::new(), Vec::new(), Vec::new());
+        for warm in [true, false] {
+            ta.clear();
+            tb.clear();
+            for _ in 0..if warm { 4 } else { ROUNDS } {
+                round(a, plan, ra.writes, ra.call, &mut ta);
+                round(b, plan, rb.writes, rb.call, &mut tb);
+                round(a, plan, false, |_, _| 0, &mut idle);
+            }
         }
+        a.restore();
+        b.restore();
+        let none = median(&mut idle);
+        ((median(&mut ta) - none).max(0.0) * self.tick, (median(&mut tb) - none).max(0.0) * self.tick)
     }
-    a.restore();
-    b.restore();
-    let none = median(&mut idle);
-    ((median(&mut ta) - none).max(0.0), (median(&mut tb) - none).max(0.0))
 }

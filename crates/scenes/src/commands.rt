@@ -110,14 +110,7 @@ impl ScenesState {
         }
         let n = self.entries;
         let found = slots::find(keys, n, key.word());
-        let done = self.upsert_scene(keys, times, fields, records, found, key, time, ext);
-        let status = done.status;
-        let state = done.state;
-        Outcome {
-            status,
-            save: status == Status::SUCCESS,
-            state,
-        }
+        self.upsert_scene(keys, times, fields, records, found, key, time, ext)
     }
 
     // Stores captured bytes as a scene, and remembers it as the fabric's current one.

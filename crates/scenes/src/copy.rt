@@ -18,8 +18,8 @@ ghost use Rattle.scenes.specs.Copy.{copiedOf, copyEntry, copyWalk, sourc
 
 // What a copy of entries answers, with the head.
 pub(crate) struct Copied {
-    pub status: u8,
     pub state: ScenesState,
+    pub status: u8,
 }
 
 impl ScenesState {

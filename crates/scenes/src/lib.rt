@@ -21,36 +21,38 @@ pub struct ScenesState {
     pub dataver: u32,
 }
 
-// What a command answers: its status or fault, whether the host has to save the table, and the head.
+// What a command answers: the head, its status or fault, and whether the host has to save the table. The head is in front, here and
+// below: behind single bytes it would be copied across the words it consists of.
 #[repr(C)]
 pub struct Outcome {
+    pub state: ScenesState,
     pub status: u8,
     pub save: bool,
-    pub state: ScenesState,
 }
 
 // What a view, or the lookup of a recall, answers: the time and the entry's position. A refusal has time 0 and a position past any
 // table's entries.
 #[repr(C)]
 pub struct SceneRead {
+    pub state: ScenesState,
     pub status: u8,
     pub time: u32,
     pub at: usize,
-    pub state: ScenesState,
 }
 
 // What a membership read answers: the remaining capacity, and how many scene ids it wrote.
 #[repr(C)]
 pub struct ListRead {
+    pub state: ScenesState,
     pub status: u8,
     pub remaining: u8,
     pub len: usize,
-    pub state: ScenesState,
 }
 
 // What an info read answers: whether there is a row, and the row.
 #[repr(C)]
 pub struct InfoRead {
+    pub state: ScenesState,
     pub status: u8,
     pub present: bool,
     pub count: u8,
@@ -59,7 +61,6 @@ pub struct InfoRead {
     pub valid: bool,
     pub remaining: u8,
     pub fabric: u8,
-    pub state: ScenesState,
 }
 
 // Whether the host applied a recalled scene.

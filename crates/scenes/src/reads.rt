@@ -203,17 +203,16 @@ impl ScenesState {
         }
         let n = self.entries;
         let range = KeyRange::of_group(key);
-        let len = slots::count(keys, n, range);
-        if ids.len() < len {
-            return ListRead::refused(Fault::LIST_TOO_LONG, self);
+        if slots::count_fits(keys, n, range, ids.len()) {
+            let len = slots::list_scenes(keys, n, range, ids);
+            return ListRead {
+                status: Status::SUCCESS,
+                remaining: self.remaining_capacity_for_fab(keys, key.fabric),
+                len,
+                state: self,
+            };
         }
-        slots::list_scenes(keys, n, range, ids);
-        ListRead {
-            status: Status::SUCCESS,
-            remaining: self.remaining_capacity_for_fab(keys, key.fabric),
-            len,
-            state: self,
-        }
+        ListRead::refused(Fault::LIST_TOO_LONG, self)
     }
 
     // The fabric's row of FabricSceneInfo on an endpoint, if it has an entry there or a record.

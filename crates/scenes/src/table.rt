@@ -1,4 +1,5 @@
 // The entries of a table: soundness, capacity, upsert, remove and retain.
+use crate::Outcome;
 use crate::ScenesState;
 use records::Scope;
 use words::Found;
@@ -16,13 +17,9 @@ ghost use Rattle.slots.specs.Slots.{firstKey};
 ghost use Rattle.scenes.specs.Table.{tableOf, entriesOf, Room};
 ghost use Rattle.scenes.specs.Sound.{fits, sound};
 ghost use Rattle.scenes.specs.Capacity.{roomFor, remaining, mayAppend};
-ghost use Rattle.scenes.specs.Change.{upsert, upsertedOf, swapRemove, retainOutside};
-
-// What an upsert answers, with the head.
-pub(crate) struct Upserted {
-    pub status: u8,
-    pub state: ScenesState,
-}
+ghost use Rattle.scenes.specs.Answer.{resultOf};
+ghost use Rattle.scenes.specs.Change.{upsert, swapRemove, retainOutside};
+ghost use Rattle.scenes.specs.Commands.{saved};
 
 // a - b, or 0.
 fn saturating_sub(a: usize, b: usize) -> usize
@@ -76,10 +73,8 @@ impl ScenesState {
         let entries = self.entries;
         let recorded = self.recorded;
         if self.fits(keys.len(), times.len(), fields.len(), records.len()) {
-            if slots::keys_sound(keys, entries) {
-                if slots::lengths_sound(fields, entries) {
-                    return records::records_sound(records, recorded);
-                }
+            if slots::entries_sound(keys, fields, entries) {
+                return records::records_sound(records, recorded);
             }
         }
         false
@@ -124,11 +119,11 @@ impl ScenesState {
         key: SceneKey,
         time: u32,
         ext: &[u8],
-    ) -> Upserted
+    ) -> Outcome
         requires { ⌜ Room (tableOf self (now keys) (now times) (now fields) (now records)) ⌝ }
         requires { ⌜ found ≡ firstKey (now keys) (self .entries) (wordOf key) ⌝ }
         requires { ⌜ length (now ext) ≤ maxFields ⌝ }
-        ensures { λ r. ⌜ upsertedOf (r .status) (tableOf (r .state) (now (keys .exit)) (now (times .exit)) (now (fields .exit)) (now (records .exit))) ≡ upsert key time (now (ext .entry)) (tableOf self (now (keys .entry)) (now (times .entry)) (now (fields .entry)) (now (records .entry))) ⌝ }
+        ensures { λ r. ⌜ resultOf (r .status) (r .save) (tableOf (r .state) (now (keys .exit)) (now (times .exit)) (now (fields .exit)) (now (records .exit))) ≡ saved (upsert key time (now (ext .entry)) (tableOf self (now (keys .entry)) (now (times .entry)) (now (fields .entry)) (now (records .entry)))) ⌝ }
     {
         let word = key.word();
         let Found::At(at) = found else {
@@ -136,19 +131,18 @@ impl ScenesState {
             if self.may_append(key.fabric) {
                 slots::put(keys, times, fields, n, word, time, ext);
                 self.entries = n + 1;
-                return Upserted {
+                return Outcome {
                     status: Status::SUCCESS,
+                    save: true,
                     state: self.invalidate_current(records, Scope::Scene(key)),
                 };
             }
-            return Upserted {
-                status: Status::SC_INSUFFICIENT_SPACE,
-                state: self,
-            };
+            return Outcome::refused(Status::SC_INSUFFICIENT_SPACE, self);
         };
         slots::put(keys, times, fields, at, word, time, ext);
-        Upserted {
+        Outcome {
             status: Status::SUCCESS,
+            save: true,
             state: self.invalidate_current(records, Scope::Scene(key)),
         }
     }

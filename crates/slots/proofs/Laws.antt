@@ -1,17 +1,17 @@
 -- The laws of what is read of the lent lists and written over them. Assumes nothing.
-use Prim.Native.Nat.{ℕ, zero, suc, _+_, _*_, _-_, _^_, _≤_, _<_}
+use Prim.Native.Nat.{ℕ, zero, suc, _+_, _*_, _-_, _/_, _%_, _^_, _≤_, _<_}
 use mathlib.Core.Path.{_≡_, refl, sym, ap, _∙_}
-use mathlib.Core.Bool.{Bool, true, false, not, cond, _&&_}
+use mathlib.Core.Bool.{Bool, true, false, not, cond, _&&_, false≢true}
 use mathlib.Core.List.{List, [], _∷_, _++_, map, append-assoc, append-nil, map-append}
 use native.Mathlib.Numerals.{add-one}
 use mathlib.Core.Logic.{⊎-elim}
 use native.Mathlib.Nat.{zero-add, not-suc-le-zero, le-of-suc-le-suc, eq-or-lt-of-le}
 use native.Mathlib.Omega.{arith}
 use lib.Dec.{ltb, leb}
-use borrow.Author.Tests.{lt-ltb, le-ltb, le-leb, lt-leb, leb-true, leb-false}
+use borrow.Author.Tests.{ltb-true, lt-ltb, le-ltb, le-leb, leb-true, leb-false}
 use lib.ListN.{length, take, drop, take-append-drop, getD, set, length-append, length-set, length-drop, length-map, List·getD-append}
 use lib.Seq.{paste, paste-zero, paste-suc, drop-paste, length-paste, drop-at, drop-cons, take-length, length-take-le, take-suc-set, drop-set-lt, append-snoc, set-split, drop-drop, take-append-seam, drop-append-seam, getD-drop, getD-take}
-use Rattle.words.proofs.Tests.{and-intro, and-false}
+use Rattle.words.proofs.Tests.{and-left, and-right, and-intro, and-false, not-true, same-test}
 use Rattle.words.proofs.Below.{kept-none, kept-hit, kept-miss, kept-le, kept-under}
 use Rattle.words.specs.Below.{countBelow, keptBelow}
 use Rattle.words.specs.Constants.{stride, maxFields}
@@ -19,16 +19,28 @@ use Rattle.words.specs.Words.{within, fabricOf, sceneOf}
 use Rattle.words.specs.declared.KeyRange.{KeyRange}
 use Rattle.slots.specs.Slots.{Slots, keySound, countKeys, lengthAt, fieldsAt, lengthThen, part, overlay, laid, chunks, gathered, outside, scenesInside, copySlot}
 
--- ---- a sound key word, by two comparisons
+-- ---- a sound key word, by its upper half
 
--- the fabric is not 0 from 2^40 on
-pub key-tested : (key : ℕ) → (ltb key (2 ^ 48) && leb (2 ^ 40) key) ≡ keySound key
-key-tested key =
-    ap (λ (b : Bool). ltb key (2 ^ 48) && b)
-    ((elim (leb (2 ^ 40) key) as (λ b. leb (2 ^ 40) key ≡ b → b ≡ leb 1 (fabricOf key)) [
-      | true ↦ λ e. let h = leb-true (2 ^ 40) key e in sym (le-leb 1 (fabricOf key) (omega arith))
-      | false ↦ λ e. let h = leb-false (2 ^ 40) key e in sym (lt-leb 1 (fabricOf key) (omega arith))
-    ]) refl)
+-- 0xFF00 upper halves, from that of 2^40 on: the others lie past them when that one is taken to 0, modulo 2^32
+abbrev past : ℕ → ℕ
+past key = (key / 2 ^ 32 + (2 ^ 32 - 0x100)) % 2 ^ 32
+
+pub key-tested : (key : ℕ) → key < 2 ^ 64 → leb 0xFF00 (past key) ≡ not (keySound key)
+key-tested key h =
+    same-test (leb 0xFF00 (past key)) (not (keySound key))
+    (λ l. let k = leb-true 0xFF00 (past key) l in
+      (elim (keySound key) as (λ b. keySound key ≡ b → not b ≡ true) [
+        | true ↦ λ q. let m = ltb-true key (2 ^ 48) (and-left (ltb key (2 ^ 48)) (leb 1 (fabricOf key)) q) in
+          let f = leb-true 1 (fabricOf key) (and-right (ltb key (2 ^ 48)) (leb 1 (fabricOf key)) q) in
+          let w : ⊥ = omega arith in absurd w
+        | false ↦ λ q. refl
+      ]) refl)
+    (λ q.
+      (elim (leb 0xFF00 (past key)) as (λ b. leb 0xFF00 (past key) ≡ b → b ≡ true) [
+        | true ↦ λ _. refl
+        | false ↦ λ l. let k = leb-false 0xFF00 (past key) l in
+          absurd (false≢true (sym (not-true (keySound key) q) ∙ and-intro (ltb key (2 ^ 48)) (leb 1 (fabricOf key)) (lt-ltb key (2 ^ 48) (omega arith)) (le-leb 1 (fabricOf key) (omega arith))))
+      ]) refl)
 
 -- above a number is not at most it
 pub over-tested : (m x : ℕ) → ltb m x ≡ not (leb x m)

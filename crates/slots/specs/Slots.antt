@@ -44,6 +44,10 @@ lengthAt fields at = getD fields (at * stride) 0
 unfoldable pub lengthsSound : List ℕ → ℕ → Bool
 lengthsSound fields n = everyBelow (λ i. leb (lengthAt fields i) maxFields) n
 
+-- the entry at a position: its key word and its length
+abbrev pub entrySound : List ℕ → List ℕ → ℕ → Bool
+entrySound keys fields i = keySound (getD keys i 0) && leb (lengthAt fields i) maxFields
+
 -- the n bytes from a position on
 abbrev pub part : ℕ → ℕ → List ℕ → List ℕ
 part from n bytes = take n (drop from bytes)

@@ -5,14 +5,14 @@ use words::KeyWord;
 use words::Limits;
 use words::Slot;
 ghost use mathlib.Core.Path.{_≡_};
-ghost use mathlib.Core.Bool.{true, not};
+ghost use mathlib.Core.Bool.{true, not, _&&_};
 ghost use Prim.Native.Nat.{_+_, _*_, _<_, _≤_};
 ghost use lib.ListN.{length, getD};
 ghost use Rattle.words.specs.Constants.{stride, maxFields};
 ghost use lib.Dec.{eqb, leb};
-ghost use Rattle.words.specs.Below.{anyBelow};
+ghost use Rattle.words.specs.Below.{everyBelow, anyBelow};
 ghost use Rattle.words.specs.declared.Found.the-variants.{Nothing};
-ghost use Rattle.slots.specs.Slots.{firstKey, countKeys, keysSound, lengthsSound, lengthAt, fieldsAt, overlay, slotsOf, putSlot, copySlot, lengthThen, part, outside, gathered, laid, scenesInside};
+ghost use Rattle.slots.specs.Slots.{firstKey, countKeys, keysSound, lengthsSound, entrySound, lengthAt, fieldsAt, overlay, slotsOf, putSlot, copySlot, lengthThen, part, outside, gathered, laid, scenesInside};
 
 // Whether one of the eight key words from a position on is this one.
 fn in_block(keys: &[u64], at: usize, key: u64) -> bool
@@ -75,49 +75,51 @@ pub fn count(keys: &[u64], n: usize, range: KeyRange) -> usize
     count
 }
 
-// Whether each of the first n key words is sound: below 2^48, with a fabric from 1 to 255.
-pub fn keys_sound(keys: &[u64], n: usize) -> bool
+// Whether at most so many of the first n key words lie in a range. Nothing is counted where that is plain.
+pub fn count_fits(keys: &[u64], n: usize, range: KeyRange, most: usize) -> bool
     requires { ⌜ n ≤ length (now keys) ⌝ }
-    ensures { λ r. ⌜ r ≡ keysSound (now (keys .entry)) n ⌝ }
+    ensures { λ r. ⌜ r ≡ leb (countKeys (now (keys .entry)) n range) most ⌝ }
 {
-    let mut sound = true;
-    let mut i = 0;
-    while i < n {
-        let key = keys[i];
-        let fits = (key < KeyWord::END) & (KeyWord::FABRIC <= key);
-        sound = sound & fits;
-        i += 1;
+    if n <= most {
+        return true;
     }
-    sound
+    count(keys, n, range) <= most
 }
 
-// Whether the entry at a position has more field bytes than there is room for.
-fn is_too_long(fields: &[u8], at: usize) -> bool
+// Whether the entry at a position is not sound: a key word that is not below 2^48 or has fabric 0, or more field bytes than there is room
+// for. The upper half of a key word decides, and a single comparison of it, so that LLVM tests the key words of a block at once.
+fn is_unsound(keys: &[u64], fields: &[u8], at: usize) -> bool
+    requires { ⌜ at < length (now keys) ⌝ }
     requires { ⌜ at * stride + stride ≤ length (now fields) ⌝ }
-    ensures { λ r. ⌜ r ≡ not (leb (lengthAt (now (fields .entry)) at) maxFields) ⌝ }
+    ensures { λ r. ⌜ r ≡ not (entrySound (now (keys .entry)) (now (fields .entry)) at) ⌝ }
 {
-    Limits::MAX_EXT_FIELDS_LEN < fields[at * Slot::STRIDE] as usize
+    let upper = keys[at] / KeyWord::UPPER;
+    let past_first = (upper + (KeyWord::UPPER - KeyWord::FIRST_UPPER)) % KeyWord::UPPER;
+    let len = fields[at * Slot::STRIDE] as usize;
+    (KeyWord::UPPERS <= past_first as u32) | (Limits::MAX_EXT_FIELDS_LEN < len)
 }
 
-// Whether one of the four entries from a position on is too long.
-fn too_long_in_block(fields: &[u8], at: usize) -> bool
+// Whether one of the four entries from a position on is not sound.
+fn unsound_in_block(keys: &[u64], fields: &[u8], at: usize) -> bool
+    requires { ⌜ at + 4 ≤ length (now keys) ⌝ }
     requires { ⌜ (at + 4) * stride ≤ length (now fields) ⌝ }
-    ensures { λ r. ⌜ r ≡ anyBelow (λ j. not (leb (lengthAt (now (fields .entry)) (at + j)) maxFields)) 4 ⌝ }
+    ensures { λ r. ⌜ r ≡ anyBelow (λ j. not (entrySound (now (keys .entry)) (now (fields .entry)) (at + j))) 4 ⌝ }
 {
-    is_too_long(fields, at)
-        | is_too_long(fields, at + 1)
-        | is_too_long(fields, at + 2)
-        | is_too_long(fields, at + 3)
+    is_unsound(keys, fields, at)
+        | is_unsound(keys, fields, at + 1)
+        | is_unsound(keys, fields, at + 2)
+        | is_unsound(keys, fields, at + 3)
 }
 
-// A position of the first n, found in steps of four, below which every length is sound.
-fn sound_blocks(fields: &[u8], n: usize) -> usize
+// A position of the first n, found in steps of four, below which every entry is sound.
+fn sound_blocks(keys: &[u64], fields: &[u8], n: usize) -> usize
+    requires { ⌜ n ≤ length (now keys) ⌝ }
     requires { ⌜ n * stride ≤ length (now fields) ⌝ }
-    ensures { λ r. ⌜ (r ≤ n) × (lengthsSound (now (fields .entry)) r ≡ true) ⌝ }
+    ensures { λ r. ⌜ (r ≤ n) × (everyBelow (λ i. entrySound (now (keys .entry)) (now (fields .entry)) i) r ≡ true) ⌝ }
 {
     let mut i = 0;
     while 4 <= n - i {
-        if too_long_in_block(fields, i) {
+        if unsound_in_block(keys, fields, i) {
             return i;
         }
         i += 4;
@@ -125,14 +127,15 @@ fn sound_blocks(fields: &[u8], n: usize) -> usize
     i
 }
 
-// Whether each of the first n entries has at most as many field bytes as there is room for.
-pub fn lengths_sound(fields: &[u8], n: usize) -> bool
+// Whether each of the first n entries is sound: its key word, and its length.
+pub fn entries_sound(keys: &[u64], fields: &[u8], n: usize) -> bool
+    requires { ⌜ n ≤ length (now keys) ⌝ }
     requires { ⌜ n * stride ≤ length (now fields) ⌝ }
-    ensures { λ r. ⌜ r ≡ lengthsSound (now (fields .entry)) n ⌝ }
+    ensures { λ r. ⌜ r ≡ (keysSound (now (keys .entry)) n && lengthsSound (now (fields .entry)) n) ⌝ }
 {
-    let mut i = sound_blocks(fields, n);
+    let mut i = sound_blocks(keys, fields, n);
     while i < n {
-        if is_too_long(fields, i) {
+        if is_unsound(keys, fields, i) {
             return false;
         }
         i += 1;
@@ -283,11 +286,11 @@ pub fn put_copy(
     put_bytes_of(fields, from, to);
 }
 
-// Writes the scene ids of those of the first n key words that lie in a range, in order, into the front of a buffer.
-pub fn list_scenes(keys: &[u64], n: usize, range: KeyRange, ids: &mut [u8])
+// Writes the scene ids of those of the first n key words that lie in a range, in order, into the front of a buffer. How many they are.
+pub fn list_scenes(keys: &[u64], n: usize, range: KeyRange, ids: &mut [u8]) -> usize
     requires { ⌜ n ≤ length (now keys) ⌝ }
     requires { ⌜ countKeys (now keys) n range ≤ length (now ids) ⌝ }
-    ensures { λ _. ⌜ now (ids .exit) ≡ laid (scenesInside (now (keys .entry)) n range) (now (ids .entry)) ⌝ }
+    ensures { λ r. ⌜ (r ≡ countKeys (now (keys .entry)) n range) × (now (ids .exit) ≡ laid (scenesInside (now (keys .entry)) n range) (now (ids .entry))) ⌝ }
 {
     let mut i = 0;
     let mut j = 0;
@@ -301,4 +304,5 @@ pub fn list_scenes(keys: &[u64], n: usize, range: KeyRange, ids: &mut [u8])
             i += 1;
         }
     }
+    j
 }

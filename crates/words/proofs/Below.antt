@@ -20,6 +20,17 @@ each-more P [] x h px (suc k) l = absurd (not-suc-le-zero (le-of-suc-le-suc l))
 each-more P (y ∷ xs) x h px zero l = h 0 (omega arith)
 each-more P (y ∷ xs) x h px (suc k) l = each-more P xs x (λ j m. h (suc j) (omega arith)) px k (le-of-suc-le-suc l)
 
+and-swap : (a b c d : Bool) → ((a && b) && (c && d)) ≡ ((a && c) && (b && d))
+and-swap true true c d = refl
+and-swap true false c d = sym (and-false c)
+and-swap false b c d = refl
+
+-- two tests at each position
+pub every-both : (p q : ℕ → Bool) (n : ℕ) → everyBelow (λ i. p i && q i) n ≡ (everyBelow p n && everyBelow q n)
+unfolding everyBelow
+every-both p q zero = refl
+every-both p q (suc n) = ap (λ (b : Bool). b && (p n && q n)) (every-both p q n) ∙ and-swap (everyBelow p n) (everyBelow q n) (p n) (q n)
+
 cond-le : (b : Bool) (m i : ℕ) → m ≤ i → cond b (suc m) m ≤ suc i
 cond-le true m i h = omega arith
 cond-le false m i h = omega arith

@@ -24,6 +24,11 @@ pub and-false : (a : Bool) → (a && false) ≡ false
 and-false true = refl
 and-false false = refl
 
+-- two that fail together, before a third
+pub and-fails : (a b c : Bool) → (a && b) ≡ false → (a && (b && c)) ≡ false
+and-fails true b c e = ap (λ (x : Bool). x && c) e
+and-fails false b c e = refl
+
 pub and-true : (a : Bool) → (a && true) ≡ a
 and-true true = refl
 and-true false = refl
@@ -51,6 +56,11 @@ neither-right false b e = e
 pub or-true : (a : Bool) → (a || true) ≡ true
 or-true true = refl
 or-true false = refl
+
+-- one of two tests fails
+pub either-fails : (a b : Bool) → (not a || not b) ≡ not (a && b)
+either-fails true b = refl
+either-fails false b = refl
 
 -- two tests that hold under the same condition are equal
 pub same-test : (a b : Bool) → (a ≡ true → b ≡ true) → (b ≡ true → a ≡ true) → a ≡ b

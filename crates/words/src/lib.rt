@@ -99,6 +99,13 @@ impl KeyWord {
 
     pub const RECORD_END: u64 = 0x2_0000_0000_0000;
 
+    // What the upper half of a word counts; from the half that FABRIC has on, so many halves are those of key words with a fabric.
+    pub const UPPER: u64 = 0x1_0000_0000;
+
+    pub const FIRST_UPPER: u64 = 0x100;
+
+    pub const UPPERS: u32 = 0xFF00;
+
     // How many endpoints, and how many groups, a part can tell apart.
     pub const PART: u64 = 0x1_0000;
 }

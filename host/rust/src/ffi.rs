@@ -20,32 +20,33 @@ pub(crate) struct State {
 #[repr(C)]
 #[derive(Clone, Copy)]
 pub(crate) struct Outcome {
+    pub state: State,
     pub status: u8,
     pub save: u8,
-    pub state: State,
 }
 
 #[repr(C)]
 #[derive(Clone, Copy)]
 pub(crate) struct SceneRead {
+    pub state: State,
     pub status: u8,
     pub time: u32,
     pub at: usize,
-    pub state: State,
 }
 
 #[repr(C)]
 #[derive(Clone, Copy)]
 pub(crate) struct ListRead {
+    pub state: State,
     pub status: u8,
     pub remaining: u8,
     pub len: usize,
-    pub state: State,
 }
 
 #[repr(C)]
 #[derive(Clone, Copy)]
 pub(crate) struct InfoRead {
+    pub state: State,
     pub status: u8,
     pub present: u8,
     pub count: u8,
@@ -54,7 +55,6 @@ pub(crate) struct InfoRead {
     pub valid: u8,
     pub remaining: u8,
     pub fabric: u8,
-    pub state: State,
 }
 
 #[repr(C)]

@@ -16,13 +16,15 @@ fn layouts_are_those_of_the_header() {
     assert_eq!((size_of::<GroupScene>(), offset_of!(GroupScene, group), offset_of!(GroupScene, scene)), (4, 0, 2));
     assert_eq!((size_of::<CopyRequest>(), offset_of!(CopyRequest, endpoint), offset_of!(CopyRequest, mode)), (14, 2, 4));
     assert_eq!((offset_of!(CopyRequest, from), offset_of!(CopyRequest, to)), (6, 10));
-    assert_eq!((size_of::<Outcome>(), offset_of!(Outcome, save), offset_of!(Outcome, state)), (40, 1, 8));
-    assert_eq!((size_of::<SceneRead>(), offset_of!(SceneRead, time), offset_of!(SceneRead, at)), (48, 4, 8));
-    assert_eq!((offset_of!(SceneRead, state), offset_of!(ListRead, state)), (16, 16));
-    assert_eq!((size_of::<ListRead>(), offset_of!(ListRead, remaining), offset_of!(ListRead, len)), (48, 1, 8));
-    assert_eq!((size_of::<InfoRead>(), offset_of!(InfoRead, present), offset_of!(InfoRead, count)), (48, 1, 2));
-    assert_eq!((offset_of!(InfoRead, group), offset_of!(InfoRead, scene), offset_of!(InfoRead, valid)), (4, 6, 7));
-    assert_eq!((offset_of!(InfoRead, remaining), offset_of!(InfoRead, fabric), offset_of!(InfoRead, state)), (8, 9, 16));
+    assert_eq!((size_of::<Outcome>(), offset_of!(Outcome, status), offset_of!(Outcome, save)), (40, 32, 33));
+    assert_eq!((offset_of!(Outcome, state), offset_of!(SceneRead, state)), (0, 0));
+    assert_eq!((offset_of!(ListRead, state), offset_of!(InfoRead, state)), (0, 0));
+    assert_eq!((size_of::<SceneRead>(), offset_of!(SceneRead, status), offset_of!(SceneRead, time)), (48, 32, 36));
+    assert_eq!((offset_of!(SceneRead, at), offset_of!(ListRead, len)), (40, 40));
+    assert_eq!((size_of::<ListRead>(), offset_of!(ListRead, status), offset_of!(ListRead, remaining)), (48, 32, 33));
+    assert_eq!((size_of::<InfoRead>(), offset_of!(InfoRead, status), offset_of!(InfoRead, present)), (48, 32, 33));
+    assert_eq!((offset_of!(InfoRead, count), offset_of!(InfoRead, group), offset_of!(InfoRead, scene)), (34, 36, 38));
+    assert_eq!((offset_of!(InfoRead, valid), offset_of!(InfoRead, remaining), offset_of!(InfoRead, fabric)), (39, 40, 41));
     assert_eq!((size_of::<FieldBytes>(), offset_of!(FieldBytes, offset), offset_of!(FieldBytes, len)), (16, 0, 8));
 }
 

@@ -115,7 +115,7 @@ returns : tie.Need-returns Inv-loop μ-loop
 returns c =
     let at = c .before in
     let e : at .loop .i ≡ at .before .before .before .args .n = omega arith in
-    rw (← e) (at .loop .inv .listed)
+    rw (← e) (at .loop .inv .counted ∙ scenes-length _ _ _, at .loop .inv .listed)
 
 pub list-scenes-spec : {M : Type 1} → statement M
 list-scenes-spec =

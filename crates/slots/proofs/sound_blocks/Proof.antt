@@ -1,28 +1,28 @@
--- `slots::sound_blocks` meets its contract: each length below i is sound. Assumes nothing.
+-- `slots::sound_blocks` meets its contract: each entry below i is sound. Assumes nothing.
 use Prim.Native.Nat.{_≤_, _-_}
 use mathlib.Core.Path.{_≡_, sym, _∙_}
 use mathlib.Core.Bool.{true}
 use native.Mathlib.Omega.{arith}
 use Rattle.words.proofs.Below.{every-none, every-block}
-use Rattle.slots.specs.Slots.{lengthsSound}
+use Rattle.words.specs.Below.{everyBelow}
+use Rattle.slots.specs.Slots.{entrySound}
 use Rattle.slots.proofs.sound_blocks.Statement.{statement}
 use Rattle.slots.proofs.sound_blocks.Tie as tie
 
 abbrev Inv-loop : tie.InvT-loop
-Inv-loop fields n i₀ i = (i ≤ n) × (lengthsSound fields i ≡ true)
+Inv-loop keys fields n i₀ i = (i ≤ n) × (everyBelow (λ k. entrySound keys fields k) i ≡ true)
 
 abbrev μ-loop : tie.MeasureT-loop
-μ-loop fields n i₀ i = n - i
+μ-loop keys fields n i₀ i = n - i
 
 loop-holds : tie.Need-loop-holds Inv-loop μ-loop
-unfolding lengthsSound
 loop-holds c = (omega arith, every-none _)
 
 sub-loop : tie.Need-sub-loop Inv-loop μ-loop
 sub-loop c = omega arith
 
-too-long-in-block-requires : tie.Need-too-long-in-block-requires Inv-loop μ-loop
-too-long-in-block-requires c κs = omega arith
+unsound-in-block-requires : tie.Need-unsound-in-block-requires Inv-loop μ-loop
+unsound-in-block-requires c κs = (omega arith, omega arith)
 
 returns : tie.Need-returns Inv-loop μ-loop
 returns c = c .before .before .before .loop .inv
@@ -34,8 +34,7 @@ loop-less : tie.Need-loop-less Inv-loop μ-loop
 loop-less c = omega arith
 
 loop-again : tie.Need-loop-again Inv-loop μ-loop
-unfolding lengthsSound
-loop-again c = (omega arith, every-block _ _ 4 (sym (c .before .too-long-in-block .ensures) ∙ c .if1 .left) (c .before .before .before .loop .inv .1))
+loop-again c = (omega arith, every-block _ _ 4 (sym (c .before .unsound-in-block .ensures) ∙ c .if1 .left) (c .before .before .before .loop .inv .1))
 
 returns-2 : tie.Need-returns-2 Inv-loop μ-loop
 returns-2 c = c .before .loop .inv
@@ -48,7 +47,7 @@ sound-blocks-spec =
     μ-loop
     loop-holds
     sub-loop
-    too-long-in-block-requires
+    unsound-in-block-requires
     returns
     add-i
     loop-less

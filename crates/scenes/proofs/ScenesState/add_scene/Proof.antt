@@ -1,5 +1,5 @@
 -- `ScenesState::add_scene` meets its contract. Assumes nothing.
-use mathlib.Core.Path.{_≡_, ap, _∙_}
+use mathlib.Core.Path.{_≡_, _∙_}
 use native.Mathlib.Omega.{arith}
 use lib.ListN.{length}
 use Rattle.words.specs.Constants.{success, maxFields}
@@ -7,7 +7,7 @@ use Rattle.requests.specs.Requests.{addGate}
 use Rattle.requests.proofs.Passed.{add-passed}
 use Rattle.scenes.specs.Table.{Table, tableOf, Room}
 use Rattle.scenes.specs.Answer.{refusalOf}
-use Rattle.scenes.specs.Commands.{saved, addScene}
+use Rattle.scenes.specs.Commands.{addScene}
 use Rattle.scenes.proofs.Guard.{when-passed, passed-gate}
 use Rattle.scenes.proofs.CommandLaws.{passes, passed-room, refuses-outcome, found-scene}
 use borrow.Author.Needs.{needs}
@@ -78,7 +78,7 @@ same-length-8 c = search needs
 
 returns-2 : tie.Need-returns-2
 unfolding addScene
-returns-2 c = ap saved (c .before .before .before .before .before .before .before .before .before .upsert-scene .ensures) ∙ when-passed _ _ _ (passed (c .before .before .before .before .before .before .before .before .before .before .before .before .before .before .before .before .before))
+returns-2 c = c .before .before .before .before .before .before .before .before .upsert-scene .ensures ∙ when-passed _ _ _ (passed (c .before .before .before .before .before .before .before .before .before .before .before .before .before .before .before .before))
 
 pub add-scene-spec : {M : Type 1} → statement M
 add-scene-spec =

@@ -1,11 +1,13 @@
 -- `ScenesState::get_scene_membership` meets its contract. Assumes nothing.
 use Prim.Native.Nat.{ℕ, _≤_, _<_}
-use mathlib.Core.Path.{_≡_, sym, ap, _∙_}
+use mathlib.Core.Path.{_≡_, refl, sym, ap, _∙_}
+use mathlib.Core.Bool.{Bool, true, false}
 use mathlib.Core.List.{List}
 use native.Mathlib.Omega.{arith}
+use lib.Dec.{leb}
 use lib.ListN.{length}
 use borrow.Author.Needs.{needs}
-use borrow.Author.Tests.{lt-ltb, le-ltb}
+use borrow.Author.Tests.{lt-ltb, le-ltb, leb-true, leb-false}
 use Rattle.words.specs.Constants.{success, listTooLong}
 use Rattle.words.specs.Words.{groupKeys}
 use Rattle.words.specs.declared.GroupKey.{GroupKey}
@@ -30,6 +32,14 @@ size-of : (key : GroupKey) (t : Table) {range : KeyRange} {n : ℕ} → range �
     → n ≡ countKeys (t .slots .keys) (t .state .entries) range → n ≡ length (sceneIds key t)
 size-of key t q e =
     e ∙ ap (countKeys (t .slots .keys) (t .state .entries)) q ∙ sym (scenes-length (t .slots .keys) (groupKeys (key .fabric) (key .endpoint) (key .group)) (t .state .entries))
+
+-- and the test for it is one of the list's length
+module _ (key : GroupKey) (t : Table) {range : KeyRange} {most : ℕ} {b : Bool} (q : range ≡ groupKeys (key .fabric) (key .endpoint) (key .group)) (e : b ≡ leb (countKeys (t .slots .keys) (t .state .entries) range) most) where
+  fitting : b ≡ true → length (sceneIds key t) ≤ most
+  fitting h = let l = leb-true (countKeys (t .slots .keys) (t .state .entries) range) most (sym e ∙ h) in omega (arith, size-of key t q refl)
+
+  too-long : b ≡ false → most < length (sceneIds key t)
+  too-long h = let l = leb-false (countKeys (t .slots .keys) (t .state .entries) range) most (sym e ∙ h) in omega (arith, size-of key t q refl)
 
 list-long : (l : List ℕ) (left : ℕ) (buffer : List ℕ) (t : Table) → length buffer < length l → unlisted buffer t listTooLong ≡ listIds l left buffer t
 unfolding listIds
@@ -63,32 +73,16 @@ returns c =
 of-group-requires : tie.Need-of-group-requires
 of-group-requires c κs = search needs
 
-count-requires : tie.Need-count-requires
-count-requires c κs =
+count-fits-requires : tie.Need-count-fits-requires
+count-fits-requires c κs =
     let a = c .before .before .before .before .before .before .before .before .before .args in
     in-bounds (tableOf (a .self) (a .keys .now) (a .times .now) (a .fields .now) (a .records .now)) _ (c .before .before .refusal .ensures) (c .before .if1 .left)
-
-refused-requires-2 : tie.Need-refused-requires-2
-refused-requires-2 c κs = search needs
-
-returns-2 : tie.Need-returns-2
-unfolding getSceneMembership
-returns-2 c =
-    let count = c .before .before in
-    let call = count .before .before .before in
-    let a = call .before .before .before .before .before .before .before .args in
-    let t = tableOf (a .self) (a .keys .now) (a .times .now) (a .fields .now) (a .records .now) in
-    let n = call .refusal .ensures ∙ ap (refusalOf t) (call .before .group-gate .ensures) in
-    let size = size-of (a .key) t (count .before .of-group .ensures) (count .count .ensures) in
-    (λ d. listedOf (c .refused2 .ensures d) (a .ids .now))
-    ∙ list-long (sceneIds (a .key) t) (remaining (a .self) (a .keys .now) (a .key .fabric)) (a .ids .now) t (omega (arith, c .before .if2 .taken))
-    ∙ when-passed (unlisted (a .ids .now) t) _ _ (sym n ∙ count .before .before .if1 .left)
 
 list-scenes-requires : tie.Need-list-scenes-requires
 list-scenes-requires c κs =
     let a = c .before .before .before .before .before .before .before .before .before .before .before .before .args in
     let t = tableOf (a .self) (a .keys .now) (a .times .now) (a .fields .now) (a .records .now) in
-    (in-bounds t _ (c .before .before .before .before .before .refusal .ensures) (c .before .before .before .before .if1 .left), omega (arith, c .before .before .count .ensures, c .before .if2 .left))
+    (in-bounds t _ (c .before .before .before .before .before .refusal .ensures) (c .before .before .before .before .if1 .left), leb-true _ _ (sym (c .before .before .count-fits .ensures) ∙ c .before .if2 .taken))
 
 remaining-capacity-for-fab-requires : tie.Need-remaining-capacity-for-fab-requires
 remaining-capacity-for-fab-requires c κs =
@@ -98,9 +92,9 @@ remaining-capacity-for-fab-requires c κs =
 same-length : tie.Need-same-length
 same-length c = search needs
 
-returns-3 : tie.Need-returns-3
+returns-2 : tie.Need-returns-2
 unfolding getSceneMembership
-returns-3 c =
+returns-2 c =
     let list = c .before .before .before in
     let count = list .before .before .before in
     let call = count .before .before .before in
@@ -108,10 +102,25 @@ returns-3 c =
     let t = tableOf (a .self) (a .keys .now) (a .times .now) (a .fields .now) (a .records .now) in
     let range = count .before .of-group .ensures in
     let n = call .refusal .ensures ∙ ap (refusalOf t) (call .before .group-gate .ensures) in
-    let size = size-of (a .key) t range (count .count .ensures) in
-    let ids = list .list-scenes .ensures ∙ ap (λ (r : KeyRange). laid (scenesInside (a .keys .now) (a .self .entries) r) (a .ids .now)) range in
+    let size = size-of (a .key) t range (list .list-scenes .ensures .0) in
+    let ids = list .list-scenes .ensures .1 ∙ ap (λ (r : KeyRange). laid (scenesInside (a .keys .now) (a .self .entries) r) (a .ids .now)) range in
     (λ d. listedOf (record { status = success; remaining = c .remaining-capacity-for-fab .ensures d; len = size d; state = a .self }) (ids d))
-    ∙ list-fits (sceneIds (a .key) t) (remaining (a .self) (a .keys .now) (a .key .fabric)) (a .ids .now) t (omega (arith, list .before .before .if2 .left))
+    ∙ list-fits (sceneIds (a .key) t) (remaining (a .self) (a .keys .now) (a .key .fabric)) (a .ids .now) t (fitting (a .key) t range (count .count-fits .ensures) (list .before .before .if2 .taken))
+    ∙ when-passed (unlisted (a .ids .now) t) _ _ (sym n ∙ count .before .before .if1 .left)
+
+refused-requires-2 : tie.Need-refused-requires-2
+refused-requires-2 c κs = search needs
+
+returns-3 : tie.Need-returns-3
+unfolding getSceneMembership
+returns-3 c =
+    let count = c .before .before in
+    let call = count .before .before .before in
+    let a = call .before .before .before .before .before .before .before .args in
+    let t = tableOf (a .self) (a .keys .now) (a .times .now) (a .fields .now) (a .records .now) in
+    let n = call .refusal .ensures ∙ ap (refusalOf t) (call .before .group-gate .ensures) in
+    (λ d. listedOf (c .refused2 .ensures d) (a .ids .now))
+    ∙ list-long (sceneIds (a .key) t) (remaining (a .self) (a .keys .now) (a .key .fabric)) (a .ids .now) t (too-long (a .key) t (count .before .of-group .ensures) (count .count-fits .ensures) (c .before .if2 .left))
     ∙ when-passed (unlisted (a .ids .now) t) _ _ (sym n ∙ count .before .before .if1 .left)
 
 pub get-scene-membership-spec : {M : Type 1} → statement M
@@ -123,10 +132,10 @@ get-scene-membership-spec =
     refused-requires
     returns
     of-group-requires
-    count-requires
-    refused-requires-2
-    returns-2
+    count-fits-requires
     list-scenes-requires
     remaining-capacity-for-fab-requires
     same-length
+    returns-2
+    refused-requires-2
     returns-3)

@@ -8,7 +8,7 @@ use Rattle.words.specs.Constants.{success, endOfContainer}
 use Rattle.scenes.specs.Table.{Table, tableOf}
 use Rattle.scenes.specs.Current.{rememberCurrent}
 use Rattle.scenes.specs.Change.{findScene, Upserted, upsertedOf, upsert}
-use Rattle.scenes.specs.Answer.{resultOf}
+use Rattle.scenes.specs.Answer.{Result, resultOf}
 use Rattle.scenes.specs.Commands.{priorTime, stored, storeCaptured}
 use Rattle.scenes.proofs.CommandLaws.{resultIn, found-scene, changed-current, upserted-prior, upserted-head, not-stored, was-stored}
 use borrow.Author.Needs.{needs}
@@ -31,6 +31,9 @@ after c =
     let u = c .upsert-scene in
     upsertedOf (u .result .status) (tableOf (u .result .state) (u .last .1 .0) (u .last .1 .1 .0) (u .last .1 .1 .1 .0) (u .last .1 .1 .1 .1 .0))
 
+abbrev unsaved : Result → Upserted
+unsaved r = upsertedOf (r .status) (r .table)
+
 upserted : (c : tie.After-upsert-scene)
     → (let f = c .before .before .before .before .before .before .before .before in
     let a = start f .args in
@@ -38,7 +41,7 @@ upserted : (c : tie.After-upsert-scene)
 upserted c =
     let f = c .before .before .before .before .before .before .before .before in
     let a = start f .args in
-    upserted-prior (a .key) _ _ (came f) (after c) (c .upsert-scene .ensures) _ _ (c .before .before .before .before .before .before .prior-time .ensures) (found f) (f .before .before .before .before .end-capture .ensures .1)
+    upserted-prior (a .key) _ _ (came f) (after c) (ap unsaved (c .upsert-scene .ensures)) _ _ (c .before .before .before .before .before .before .prior-time .ensures) (found f) (f .before .before .before .before .end-capture .ensures .1)
 
 slice-aggregate-end-capture : tie.Need-slice-aggregate-end-capture
 slice-aggregate-end-capture c = search needs

@@ -5,7 +5,9 @@ use native.Mathlib.Omega.{arith}
 use borrow.Author.Tests.{ltb-true, ltb-false}
 use Rattle.slots.specs.Slots.{putSlot}
 use Rattle.scenes.specs.Table.{tableOf}
+use Rattle.scenes.specs.Commands.{saved}
 use Rattle.scenes.proofs.Laws.{found-under, upsert-known, upsert-new, upsert-full}
+use Rattle.scenes.proofs.CommandLaws.{resultIn}
 use borrow.Author.Needs.{needs}
 use Rattle.scenes.proofs.ScenesState.upsert_scene.Statement.{statement}
 use Rattle.scenes.proofs.ScenesState.upsert_scene.Tie as tie
@@ -52,19 +54,24 @@ returns c =
     let a = c .before .before .before .before .before .before .before .before .before .before .before .before .before .before .before .before .before .before .before .before .before .before .before .before .args in
     let t = tableOf (a .self) (a .keys .now) (a .times .now) (a .fields .now) (a .records .now) in
     let word = c .before .before .before .before .before .before .before .before .before .before .before .before .before .before .before .before .before .before .word .ensures in
-    upsert-new (a .key) (a .time) (a .ext .now) t _ _ _ _ _
+    ap saved
+    (upsert-new (a .key) (a .time) (a .ext .now) t _ _ _ _ _
     (sym (c .before .before .before .before .before .before .before .before .before .before .before .before .before .before .before .before .before .before .before .before .before .before .before .before .pre .1 .0) ∙ c .before .before .before .before .before .before .before .before .before .before .before .before .before .before .before .before .enum-told .given .1)
     (ltb-true _ _ (sym (c .before .before .before .before .before .before .before .before .before .before .before .before .before .before .before .may-append .ensures) ∙ c .before .before .before .before .before .before .before .before .before .before .before .before .before .before .if1 .taken))
     (c .before .before .before .before .before .before .before .before .before .before .put .ensures ∙ ap (λ (w : ℕ). putSlot (a .self .entries) w (a .time) (a .ext .now) (t .slots)) word)
-    (c .before .before .invalidate-current .ensures)
+    (c .before .before .invalidate-current .ensures))
+
+refused-requires : tie.Need-refused-requires
+refused-requires c κs = search needs
 
 returns-2 : tie.Need-returns-2
 returns-2 c =
-    let a = c .before .before .before .before .before .before .before .before .before .before .args in
+    let a = c .before .before .before .before .before .before .before .before .before .before .before .args in
     let t = tableOf (a .self) (a .keys .now) (a .times .now) (a .fields .now) (a .records .now) in
-    upsert-full (a .key) (a .time) (a .ext .now) t
-    (sym (c .before .before .before .before .before .before .before .before .before .before .pre .1 .0) ∙ c .before .before .enum-told .given .1)
-    (ltb-false _ _ (sym (c .before .may-append .ensures) ∙ c .if1 .left))
+    ap (resultIn (t .slots) (t .records)) (c .refused .ensures)
+    ∙ ap saved (upsert-full (a .key) (a .time) (a .ext .now) t
+    (sym (c .before .before .before .before .before .before .before .before .before .before .before .pre .1 .0) ∙ c .before .before .before .enum-told .given .1)
+    (ltb-false _ _ (sym (c .before .before .may-append .ensures) ∙ c .before .if1 .left)))
 
 put-requires-2 : tie.Need-put-requires-2
 put-requires-2 c κs =
@@ -92,10 +99,11 @@ returns-3 c =
     let a = c .before .before .before .before .before .before .before .before .before .before .before .before .before .before .before .before .before .before .before .before .before .before .before .args in
     let t = tableOf (a .self) (a .keys .now) (a .times .now) (a .fields .now) (a .records .now) in
     let word = c .before .before .before .before .before .before .before .before .before .before .before .before .before .before .before .before .before .word .ensures in
-    upsert-known (a .key) (a .time) (a .ext .now) t _ _ _ _ _ _
+    ap saved
+    (upsert-known (a .key) (a .time) (a .ext .now) t _ _ _ _ _ _
     (sym (c .before .before .before .before .before .before .before .before .before .before .before .before .before .before .before .before .before .before .before .before .before .before .before .pre .1 .0) ∙ c .before .before .before .before .before .before .before .before .before .before .before .before .before .before .before .found .given .1)
     (c .before .before .before .before .before .before .before .before .before .before .put2 .ensures ∙ ap (λ (w : ℕ). putSlot (c .before .before .before .before .before .before .before .before .before .before .before .before .before .before .before .found .given .0 .0) w (a .time) (a .ext .now) (t .slots)) word)
-    (c .before .before .invalidate-current2 .ensures)
+    (c .before .before .invalidate-current2 .ensures))
 
 pub upsert-scene-spec : {M : Type 1} → statement M
 upsert-scene-spec =
@@ -113,6 +121,7 @@ upsert-scene-spec =
     same-length-3
     same-length-4
     returns
+    refused-requires
     returns-2
     put-requires-2
     invalidate-current-requires-2
