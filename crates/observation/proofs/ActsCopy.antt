@@ -15,7 +15,7 @@ use Rattle.words.specs.Words.{wordOf, sceneOf, within, groupKeys}
 use Rattle.words.specs.declared.Found.{Found}
 use Rattle.words.specs.declared.Found.the-variants.{At, Nothing}
 use Rattle.words.specs.declared.SceneKey.{SceneKey}
-use Rattle.words.proofs.Ranges.{within-low, within-high}
+use Rattle.words.proofs.Ranges.{group-upper}
 use Rattle.slots.specs.Slots.{SceneEntry, entryAt, fieldsAt, lengthAt, firstKey, keySound}
 use Rattle.records.specs.declared.Scope.{Scope}
 use Rattle.requests.specs.declared.Membership.{Membership}
@@ -173,15 +173,14 @@ module _ (f e g h : ℕ) (f₁ : 1 ≤ f) (hf : f < 2 ^ 8) (he : e < 2 ^ 16) (hg
   other-group n s hs =
       (elim (within (groupKeys f e g) (wordOf (sceneKey f e h s))) as (λ b. within (groupKeys f e g) (wordOf (sceneKey f e h s)) ≡ b → b ≡ false) [
         | true ↦ λ q.
-            let a = within-low (groupKeys f e g) (wordOf (sceneKey f e h s)) q in
-            let b = within-high (groupKeys f e g) (wordOf (sceneKey f e h s)) q in
+            let a = group-upper f e g (wordOf (sceneKey f e h s)) q in
             absurd (n (omega arith))
         | false ↦ λ _. refl
       ]) refl
 
   -- a source's key in its own group is its key
   own-key : g ≡ h → (w : ℕ) → within (groupKeys f e g) w ≡ true → w ≡ wordOf (sceneKey f e h (sceneOf w))
-  own-key z w q = let a = within-low (groupKeys f e g) w q in let b = within-high (groupKeys f e g) w q in omega arith
+  own-key z w q = let a = group-upper f e g w q in omega arith
 
   -- the sources behind i stay as they are
   sources-stay : (es : List SceneEntry) (d : SceneEntry) (i : ℕ) (y : SceneEntry) → i < length es → getD es i d ≡ y → source y ≡ true → (j : ℕ) → i < j

@@ -1,17 +1,17 @@
 -- What a sound table has, by name, and that a change which keeps the sizes and leaves sound words leaves a sound table. Assumes nothing.
 use Prim.Native.Nat.{ℕ, _*_, _^_, _≤_, _<_}
-use mathlib.Core.Path.{_≡_, sym, ap, _∙_}
+use mathlib.Core.Path.{_≡_, ap, _∙_}
 use mathlib.Core.Bool.{Bool, true}
 use mathlib.Core.List.{List}
 use native.Mathlib.Omega.{arith}
 use lib.ListN.{length, getD}
 use borrow.Author.Tests.{lt-ltb, le-leb}
 use Rattle.words.specs.Constants.{maxScenes, maxFields, stride}
-use Rattle.words.specs.Words.{wordOf}
+use Rattle.words.specs.Words.{wordOf, fabricOf}
 use Rattle.words.specs.declared.SceneKey.{SceneKey}
 use Rattle.words.proofs.Tests.{and-intro, all-head, all-tail, all-none, all-more}
 use Rattle.slots.specs.Slots.{Slots, SceneEntry, keySound, lengthAt}
-use Rattle.slots.proofs.Laws.{Bounds, key-tested}
+use Rattle.slots.proofs.Laws.{Bounds}
 use Rattle.slots.proofs.View.{keys-at, keys-all, lengths-at, lengths-all, SameLengths, SameEntry}
 use Rattle.records.specs.Records.{recordSound}
 use Rattle.records.proofs.View.{sound-at, sound-all}
@@ -75,7 +75,7 @@ of-each t s =
 pub word-sound : (key : SceneKey) → 1 ≤ key .fabric → key .fabric < 2 ^ 8 → key .endpoint < 2 ^ 16 → key .group < 2 ^ 16 → key .scene < 2 ^ 8 → keySound (wordOf key) ≡ true
 word-sound key f₁ f e g s =
     let w = wordOf key in
-    sym (key-tested w) ∙ and-intro _ _ (lt-ltb w (2 ^ 48) (omega arith)) (le-leb (2 ^ 40) w (omega arith))
+    and-intro _ _ (lt-ltb w (2 ^ 48) (omega arith)) (le-leb 1 (fabricOf w) (omega arith))
 
 -- ---- changes
 

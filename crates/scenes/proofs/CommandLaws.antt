@@ -114,9 +114,8 @@ module _ (t : Table) (s : ScenesState) (k tm f : List ℕ) where
         let h = ap (λ (x : Entries). x .state .entries) e in
         omega (arith, outside-le (t .slots .keys) r (t .state .entries))
 
-    pub retained-table : (range : KeyRange) → r ≡ range → tableOf s k tm f (t .records) ≡ withEntries (retainOutside range) t
-    retained-table range q =
-        changed-entries t (retainOutside range) s k tm f (e ∙ ap (λ (x : KeyRange). retainOutside x (record { state = t .state; slots = t .slots })) q)
+    pub retained-table : tableOf s k tm f (t .records) ≡ withEntries (retainOutside r) t
+    retained-table = changed-entries t (retainOutside r) s k tm f e
 
 -- ---- store
 

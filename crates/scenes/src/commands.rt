@@ -222,7 +222,7 @@ impl ScenesState {
             return Outcome::refused(refusal, self);
         }
         let before = self.entries;
-        let left = self.retain(keys, times, fields, KeyRange::of_group(key));
+        let left = self.retain(keys, times, fields, KeyRange::Group(key));
         if left.entries == before {
             return Outcome {
                 status: Status::SUCCESS,

@@ -72,7 +72,7 @@ impl ScenesState {
         ensures { λ r. ⌜ copiedOf (r .status) (entriesOf (r .state) (now (keys .exit)) (now (times .exit)) (now (fields .exit))) ≡ copyWalk from to (self .entries) 0 notFound (entriesOf self (now (keys .entry)) (now (times .entry)) (now (fields .entry))) ⌝ }
     {
         let n = self.entries;
-        let range = KeyRange::of_group(from);
+        let range = KeyRange::Group(from);
         let mut state = self;
         let mut status = Status::SC_NOT_FOUND;
         let mut i = 0;

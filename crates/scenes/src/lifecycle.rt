@@ -50,7 +50,7 @@ impl ScenesState {
         }
         let entries = self.entries;
         let recorded = self.recorded;
-        let mut state = self.retain(keys, times, fields, KeyRange::of_fabric(fabric));
+        let mut state = self.retain(keys, times, fields, KeyRange::Fabric(fabric));
         let left = records::retain(records, recorded, fabric);
         state.recorded = left;
         if state.entries + left < entries + recorded {

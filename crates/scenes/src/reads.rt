@@ -5,6 +5,7 @@ use crate::SceneRead;
 use crate::ScenesState;
 use crate::Transition;
 use requests::Membership;
+use words::EndpointKey;
 use words::Fault;
 use words::Found;
 use words::GroupKey;
@@ -202,7 +203,7 @@ impl ScenesState {
             return ListRead::refused(refusal, self);
         }
         let n = self.entries;
-        let range = KeyRange::of_group(key);
+        let range = KeyRange::Group(key);
         if slots::count_fits(keys, n, range, ids.len()) {
             let len = slots::list_scenes(keys, n, range, ids);
             return ListRead {
@@ -235,7 +236,8 @@ impl ScenesState {
         }
         let entries = self.entries;
         let recorded = self.recorded;
-        let count = slots::count(keys, entries, KeyRange::of_endpoint(fabric, endpoint));
+        let range = KeyRange::Endpoint(EndpointKey { fabric, endpoint });
+        let count = slots::count(keys, entries, range);
         let remaining = self.remaining_capacity_for_fab(keys, fabric);
         let Found::At(at) = records::find(records, recorded, fabric, endpoint) else {
             if count == 0 {

@@ -80,16 +80,19 @@ impl ScenesState {
         false
     }
 
-    // How many scenes a fabric may still copy, before that is cut to a byte.
+    // How many scenes a fabric may still copy, before that is cut to a byte. A full table has room for none, whatever the fabric uses.
     pub(crate) fn room_for_fab(self, keys: &[u64], fabric: u8) -> usize
         requires { ⌜ self .entries ≤ length (now keys) ⌝ }
         ensures { λ r. ⌜ r ≡ roomFor self (now (keys .entry)) fabric ⌝ }
     {
         let size = self.size;
         let entries = self.entries;
-        let used = slots::count(keys, entries, KeyRange::of_fabric(fabric));
-        let per_fab_remaining = saturating_sub(saturating_sub(size, 1) / 2, used);
-        let global_remaining = saturating_sub(size, entries);
+        if size <= entries {
+            return 0;
+        }
+        let used = slots::count(keys, entries, KeyRange::Fabric(fabric));
+        let per_fab_remaining = saturating_sub((size - 1) / 2, used);
+        let global_remaining = size - entries;
         least(per_fab_remaining, global_remaining)
     }
 

@@ -29,18 +29,18 @@ pub key-tested : (key : ℕ) → key < 2 ^ 64 → leb 0xFF00 (past key) ≡ not 
 key-tested key h =
     same-test (leb 0xFF00 (past key)) (not (keySound key))
     (λ l. let k = leb-true 0xFF00 (past key) l in
-      (elim (keySound key) as (λ b. keySound key ≡ b → not b ≡ true) [
-        | true ↦ λ q. let m = ltb-true key (2 ^ 48) (and-left (ltb key (2 ^ 48)) (leb 1 (fabricOf key)) q) in
+    (elim (keySound key) as (λ b. keySound key ≡ b → not b ≡ true) [
+      | true ↦ λ q. let m = ltb-true key (2 ^ 48) (and-left (ltb key (2 ^ 48)) (leb 1 (fabricOf key)) q) in
           let f = leb-true 1 (fabricOf key) (and-right (ltb key (2 ^ 48)) (leb 1 (fabricOf key)) q) in
           let w : ⊥ = omega arith in absurd w
-        | false ↦ λ q. refl
-      ]) refl)
+      | false ↦ λ q. refl
+    ]) refl)
     (λ q.
-      (elim (leb 0xFF00 (past key)) as (λ b. leb 0xFF00 (past key) ≡ b → b ≡ true) [
-        | true ↦ λ _. refl
-        | false ↦ λ l. let k = leb-false 0xFF00 (past key) l in
+    (elim (leb 0xFF00 (past key)) as (λ b. leb 0xFF00 (past key) ≡ b → b ≡ true) [
+      | true ↦ λ _. refl
+      | false ↦ λ l. let k = leb-false 0xFF00 (past key) l in
           absurd (false≢true (sym (not-true (keySound key) q) ∙ and-intro (ltb key (2 ^ 48)) (leb 1 (fabricOf key)) (lt-ltb key (2 ^ 48) (omega arith)) (le-leb 1 (fabricOf key) (omega arith))))
-      ]) refl)
+    ]) refl)
 
 -- above a number is not at most it
 pub over-tested : (m x : ℕ) → ltb m x ≡ not (leb x m)

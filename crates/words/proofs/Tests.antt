@@ -1,11 +1,7 @@
--- The laws of Booleans, of numbers as tests, and of lists of conditions. Assumes nothing.
-use Prim.Native.Nat.{ℕ, _+_, _-_, _≤_, _<_}
+-- The laws of Booleans and of lists of conditions. Assumes nothing.
 use mathlib.Core.Path.{_≡_, refl, sym, ap, _∙_}
 use mathlib.Core.Bool.{Bool, true, false, not, _&&_, _||_, false≢true}
 use mathlib.Core.List.{List, [], _∷_}
-use native.Mathlib.Omega.{arith}
-use lib.Dec.{ltb, leb, eqb}
-use borrow.Author.Tests.{ltb-true, ltb-false, lt-ltb, le-ltb, eqb-true, eqb-false, eq-eqb, ne-eqb}
 use Rattle.words.specs.Conditions.{allOf}
 
 pub and-left : (a b : Bool) → (a && b) ≡ true → a ≡ true
@@ -68,13 +64,6 @@ same-test true true f g = refl
 same-test true false f g = sym (f refl)
 same-test false true f g = g refl
 same-test false false f g = refl
-
--- a difference against a sum
-pub shift-ltb : (lo w n : ℕ) → lo ≤ w → ltb (w - lo) n ≡ ltb w (lo + n)
-shift-ltb lo w n h =
-    same-test (ltb (w - lo) n) (ltb w (lo + n))
-    (λ e. let k = ltb-true (w - lo) n e in lt-ltb w (lo + n) (omega arith))
-    (λ e. let k = ltb-true w (lo + n) e in lt-ltb (w - lo) n (omega arith))
 
 -- ---- lists of conditions
 

@@ -1,10 +1,11 @@
 -- Key words, record words, and the ranges of key words that belong to a fabric, an endpoint or a group.
 -- Document 01, "Forms that change first".
 use Prim.Native.Nat.{ℕ, _+_, _*_, _/_, _%_, _^_}
-use mathlib.Core.Bool.{Bool, _&&_}
-use lib.Dec.{leb, ltb, eqb}
+use mathlib.Core.Bool.{Bool}
+use lib.Dec.{leb, eqb}
 use Rattle.words.specs.declared.SceneKey.{SceneKey}
 use Rattle.words.specs.declared.KeyRange.{KeyRange}
+use Rattle.words.specs.declared.KeyRange.the-variants.{Fabric, Endpoint, Group}
 
 -- fabric × 2^40 + endpoint × 2^24 + group × 2^8 + scene
 abbrev pub keyOf : ℕ → ℕ → ℕ → ℕ → ℕ
@@ -41,16 +42,18 @@ validRecord k = wordOf k + 2 ^ 48
 abbrev pub owns : ℕ → ℕ → ℕ → Bool
 owns word fabric endpoint = eqb (fabricOf (keyOfRecord word)) fabric
 
--- whether a key word is one of the n from lo on
+-- whether a key word lies in a range: the parts that the range names are all that stands above those that it leaves open
 unfoldable pub within : KeyRange → ℕ → Bool
-within r key = leb (r .lo) key && ltb key (r .lo + r .n)
+within (Fabric fabric) key = eqb (fabricOf key) fabric
+within (Endpoint k) key = eqb (key / 2 ^ 24) (k .fabric * 2 ^ 16 + k .endpoint)
+within (Group k) key = eqb (key / 2 ^ 8) ((k .fabric * 2 ^ 16 + k .endpoint) * 2 ^ 16 + k .group)
 
 -- the key words of a fabric; of a fabric on an endpoint; of a fabric in a group on an endpoint
 abbrev pub fabricKeys : ℕ → KeyRange
-fabricKeys fabric = record { lo = fabric * 2 ^ 40; n = 2 ^ 40 }
+fabricKeys fabric = Fabric fabric
 
 abbrev pub endpointKeys : ℕ → ℕ → KeyRange
-endpointKeys fabric endpoint = record { lo = fabric * 2 ^ 40 + endpoint * 2 ^ 24; n = 2 ^ 24 }
+endpointKeys fabric endpoint = Endpoint (record { fabric = fabric; endpoint = endpoint })
 
 abbrev pub groupKeys : ℕ → ℕ → ℕ → KeyRange
-groupKeys fabric endpoint group = record { lo = fabric * 2 ^ 40 + endpoint * 2 ^ 24 + group * 2 ^ 8; n = 2 ^ 8 }
+groupKeys fabric endpoint group = Group (record { fabric = fabric; endpoint = endpoint; group = group })

@@ -1,7 +1,7 @@
 // Key words, record words and ranges of key words, with the constants of the scene table.
 ghost use mathlib.Core.Path.{_≡_};
 ghost use Prim.Native.Nat.{_+_, _<_, _^_};
-ghost use Rattle.words.specs.Words.{wordOf, fabricOf, endpointOf, groupOf, sceneOf, keyOfRecord, isValid, validRecord, within, fabricKeys, endpointKeys, groupKeys};
+ghost use Rattle.words.specs.Words.{wordOf, fabricOf, endpointOf, groupOf, sceneOf, keyOfRecord, isValid, validRecord, within};
 
 // Status bytes that a command answers.
 pub struct Status;
@@ -127,10 +127,17 @@ pub struct GroupKey {
     pub group: u16,
 }
 
-// The n key words from lo on.
-pub struct KeyRange {
-    pub lo: u64,
-    pub n: u64,
+// A fabric on an endpoint.
+pub struct EndpointKey {
+    pub fabric: u8,
+    pub endpoint: u16,
+}
+
+// The key words of a fabric, of a fabric on an endpoint, or of a fabric in a group on an endpoint.
+pub enum KeyRange {
+    Fabric(u8),
+    Endpoint(EndpointKey),
+    Group(GroupKey),
 }
 
 // The position of what was looked for, if there is one.
@@ -159,48 +166,22 @@ impl SceneKey {
 }
 
 impl KeyRange {
-    // The key words of a fabric.
-    pub fn of_fabric(fabric: u8) -> KeyRange
-        ensures { λ r. ⌜ r ≡ fabricKeys fabric ⌝ }
-    {
-        KeyRange {
-            lo: (fabric as u64) * KeyWord::FABRIC,
-            n: KeyWord::FABRIC,
-        }
-    }
-
-    // The key words of a fabric on an endpoint.
-    pub fn of_endpoint(fabric: u8, endpoint: u16) -> KeyRange
-        ensures { λ r. ⌜ r ≡ endpointKeys fabric endpoint ⌝ }
-    {
-        KeyRange {
-            lo: (fabric as u64) * KeyWord::FABRIC + (endpoint as u64) * KeyWord::ENDPOINT,
-            n: KeyWord::ENDPOINT,
-        }
-    }
-
-    // The key words of a fabric in a group on an endpoint.
-    pub fn of_group(key: GroupKey) -> KeyRange
-        ensures { λ r. ⌜ r ≡ groupKeys (key .fabric) (key .endpoint) (key .group) ⌝ }
-    {
-        KeyRange {
-            lo: (key.fabric as u64) * KeyWord::FABRIC
-                + (key.endpoint as u64) * KeyWord::ENDPOINT
-                + (key.group as u64) * KeyWord::GROUP,
-            n: KeyWord::GROUP,
-        }
-    }
-
-    // Whether a word lies in the range.
+    // Whether a key word lies in the range: its upper part decides, which is one comparison.
     pub fn holds(self, word: u64) -> bool
         ensures { λ r. ⌜ r ≡ within self word ⌝ }
     {
-        let lo = self.lo;
-        let n = self.n;
-        if word < lo {
-            return false;
+        match self {
+            KeyRange::Fabric(fabric) => fabric_of(word) == fabric as u64,
+            KeyRange::Endpoint(key) => {
+                word / KeyWord::ENDPOINT
+                    == (key.fabric as u64) * KeyWord::PART + (key.endpoint as u64)
+            }
+            KeyRange::Group(key) => {
+                word / KeyWord::GROUP
+                    == ((key.fabric as u64) * KeyWord::PART + (key.endpoint as u64)) * KeyWord::PART
+                        + (key.group as u64)
+            }
         }
-        word - lo < n
     }
 }
 

@@ -69,13 +69,10 @@ Inv-loop keys₀ times₀ fields₀ to n range state₀ status₀ i₀ keys time
 abbrev μ-loop : tie.MeasureT-loop
 μ-loop keys₀ times₀ fields₀ to n range state₀ status₀ i₀ keys times fields state status i = n - i
 
-of-group-requires : tie.Need-of-group-requires Inv-loop μ-loop
-of-group-requires c κs = search needs
-
 loop-holds : tie.Need-loop-holds Inv-loop μ-loop
 loop-holds c = record {
   reached = omega arith;
-  room = c .before .before .before .before .pre;
+  room = c .before .before .before .pre;
   entries = omega arith;
   lengths = record { keys = refl; times = refl; fields = refl };
   walk = λ from _. walk-start from _ _ _ _;
@@ -110,10 +107,10 @@ returns c =
     let call = c .before .before .before .before .before .before .before .before in
     let branch = call .before .before .before .before .before in
     let at = branch .before .before .before .before in
-    let a = at .before .before .before .before .before .args in
+    let a = at .before .before .before .before .args in
     stop (at .loop .inv) (branch .before .before .before .loop-test .taken) (sym (branch .before .holds .ensures) ∙ branch .if1 .taken)
     (call .copy-entry .ensures ∙ named (a .to) (at .loop .i) _ _ (call .before .before .before .before .scene-of .ensures))
-    (c .if2 .taken) (a .from) (at .before .of-group .ensures)
+    (c .if2 .taken) (a .from) refl
 
 add-i : tie.Need-add-i Inv-loop μ-loop
 add-i c = omega (arith, c .before .before .before .before .before .before .before .before .before .before .before .before .before .before .before .before .loop-test .taken)
@@ -126,7 +123,7 @@ loop-again c =
     let call = c .before .before .before .before .before .before .before .before in
     let branch = call .before .before .before .before .before in
     let at = branch .before .before .before .before in
-    let a = at .before .before .before .before .before .args in
+    let a = at .before .before .before .before .args in
     let kept = call .copy-entry .kept .1 in
     step (at .loop .inv) (branch .before .before .before .loop-test .taken) (sym (branch .before .holds .ensures) ∙ branch .if1 .taken)
     (call .copy-entry .ensures ∙ named (a .to) (at .loop .i) _ _ (call .before .before .before .before .scene-of .ensures))
@@ -153,7 +150,7 @@ same-length-6 c = c .before .loop .inv .lengths .fields
 returns-2 : tie.Need-returns-2 Inv-loop μ-loop
 returns-2 c =
     let at = c .before in
-    sym (walk-end _ _ _ _ _ _ (c .loop-test .left)) ∙ at .loop .inv .walk (at .before .before .before .before .before .args .from) (at .before .of-group .ensures)
+    sym (walk-end _ _ _ _ _ _ (c .loop-test .left)) ∙ at .loop .inv .walk (at .before .before .before .before .args .from) refl
 
 pub copy-group-spec : {M : Type 1} → statement M
 copy-group-spec =
@@ -161,7 +158,6 @@ copy-group-spec =
     (tie.spec
     Inv-loop
     μ-loop
-    of-group-requires
     loop-holds
     mul-word
     slice-read-word

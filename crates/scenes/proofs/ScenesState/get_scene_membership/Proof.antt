@@ -9,10 +9,9 @@ use lib.ListN.{length}
 use borrow.Author.Needs.{needs}
 use borrow.Author.Tests.{lt-ltb, le-ltb, leb-true, leb-false}
 use Rattle.words.specs.Constants.{success, listTooLong}
-use Rattle.words.specs.Words.{groupKeys}
 use Rattle.words.specs.declared.GroupKey.{GroupKey}
-use Rattle.words.specs.declared.KeyRange.{KeyRange}
-use Rattle.slots.specs.Slots.{countKeys, scenesInside, laid}
+use Rattle.words.specs.declared.KeyRange.the-variants.{Group}
+use Rattle.slots.specs.Slots.{countKeys, laid}
 use Rattle.slots.proofs.Laws.{scenes-length}
 use Rattle.scenes.specs.Table.{Table, tableOf}
 use Rattle.scenes.specs.Answer.{refusalOf}
@@ -28,18 +27,16 @@ in-bounds : (t : Table) (gate : ℕ) {n : ℕ} → n ≡ refusalOf t gate → n 
 in-bounds t gate e z = let f = sound-fits t (passed-sound t gate (sym e ∙ z)) in omega arith
 
 -- the list is as long as the group counts
-size-of : (key : GroupKey) (t : Table) {range : KeyRange} {n : ℕ} → range ≡ groupKeys (key .fabric) (key .endpoint) (key .group)
-    → n ≡ countKeys (t .slots .keys) (t .state .entries) range → n ≡ length (sceneIds key t)
-size-of key t q e =
-    e ∙ ap (countKeys (t .slots .keys) (t .state .entries)) q ∙ sym (scenes-length (t .slots .keys) (groupKeys (key .fabric) (key .endpoint) (key .group)) (t .state .entries))
+size-of : (key : GroupKey) (t : Table) → countKeys (t .slots .keys) (t .state .entries) (Group key) ≡ length (sceneIds key t)
+size-of key t = sym (scenes-length (t .slots .keys) (Group key) (t .state .entries))
 
 -- and the test for it is one of the list's length
-module _ (key : GroupKey) (t : Table) {range : KeyRange} {most : ℕ} {b : Bool} (q : range ≡ groupKeys (key .fabric) (key .endpoint) (key .group)) (e : b ≡ leb (countKeys (t .slots .keys) (t .state .entries) range) most) where
+module _ (key : GroupKey) (t : Table) {most : ℕ} {b : Bool} (e : b ≡ leb (countKeys (t .slots .keys) (t .state .entries) (Group key)) most) where
   fitting : b ≡ true → length (sceneIds key t) ≤ most
-  fitting h = let l = leb-true (countKeys (t .slots .keys) (t .state .entries) range) most (sym e ∙ h) in omega (arith, size-of key t q refl)
+  fitting h = let l = leb-true (countKeys (t .slots .keys) (t .state .entries) (Group key)) most (sym e ∙ h) in omega (arith, size-of key t)
 
   too-long : b ≡ false → most < length (sceneIds key t)
-  too-long h = let l = leb-false (countKeys (t .slots .keys) (t .state .entries) range) most (sym e ∙ h) in omega (arith, size-of key t q refl)
+  too-long h = let l = leb-false (countKeys (t .slots .keys) (t .state .entries) (Group key)) most (sym e ∙ h) in omega (arith, size-of key t)
 
 list-long : (l : List ℕ) (left : ℕ) (buffer : List ℕ) (t : Table) → length buffer < length l → unlisted buffer t listTooLong ≡ listIds l left buffer t
 unfolding listIds
@@ -70,24 +67,21 @@ returns c =
     ∙ ap (unlisted (a .ids .now) t) n
     ∙ when-refused (unlisted (a .ids .now) t) _ _ (λ z. c .before .if1 .taken (n ∙ z))
 
-of-group-requires : tie.Need-of-group-requires
-of-group-requires c κs = search needs
-
 count-fits-requires : tie.Need-count-fits-requires
 count-fits-requires c κs =
-    let a = c .before .before .before .before .before .before .before .before .before .args in
-    in-bounds (tableOf (a .self) (a .keys .now) (a .times .now) (a .fields .now) (a .records .now)) _ (c .before .before .refusal .ensures) (c .before .if1 .left)
+    let a = c .before .before .before .before .before .before .before .before .args in
+    in-bounds (tableOf (a .self) (a .keys .now) (a .times .now) (a .fields .now) (a .records .now)) _ (c .before .refusal .ensures) (c .if1 .left)
 
 list-scenes-requires : tie.Need-list-scenes-requires
 list-scenes-requires c κs =
-    let a = c .before .before .before .before .before .before .before .before .before .before .before .before .args in
+    let a = c .before .before .before .before .before .before .before .before .before .before .before .args in
     let t = tableOf (a .self) (a .keys .now) (a .times .now) (a .fields .now) (a .records .now) in
-    (in-bounds t _ (c .before .before .before .before .before .refusal .ensures) (c .before .before .before .before .if1 .left), leb-true _ _ (sym (c .before .before .count-fits .ensures) ∙ c .before .if2 .taken))
+    (in-bounds t _ (c .before .before .before .before .refusal .ensures) (c .before .before .before .if1 .left), leb-true _ _ (sym (c .before .before .count-fits .ensures) ∙ c .before .if2 .taken))
 
 remaining-capacity-for-fab-requires : tie.Need-remaining-capacity-for-fab-requires
 remaining-capacity-for-fab-requires c κs =
-    let a = c .before .before .before .before .before .before .before .before .before .before .before .before .before .before .before .args in
-    in-bounds (tableOf (a .self) (a .keys .now) (a .times .now) (a .fields .now) (a .records .now)) _ (c .before .before .before .before .before .before .before .before .refusal .ensures) (c .before .before .before .before .before .before .before .if1 .left)
+    let a = c .before .before .before .before .before .before .before .before .before .before .before .before .before .before .args in
+    in-bounds (tableOf (a .self) (a .keys .now) (a .times .now) (a .fields .now) (a .records .now)) _ (c .before .before .before .before .before .before .before .refusal .ensures) (c .before .before .before .before .before .before .if1 .left)
 
 same-length : tie.Need-same-length
 same-length c = search needs
@@ -97,16 +91,14 @@ unfolding getSceneMembership
 returns-2 c =
     let list = c .before .before .before in
     let count = list .before .before .before in
-    let call = count .before .before .before in
+    let call = count .before .before in
     let a = call .before .before .before .before .before .before .before .args in
     let t = tableOf (a .self) (a .keys .now) (a .times .now) (a .fields .now) (a .records .now) in
-    let range = count .before .of-group .ensures in
     let n = call .refusal .ensures ∙ ap (refusalOf t) (call .before .group-gate .ensures) in
-    let size = size-of (a .key) t range (list .list-scenes .ensures .0) in
-    let ids = list .list-scenes .ensures .1 ∙ ap (λ (r : KeyRange). laid (scenesInside (a .keys .now) (a .self .entries) r) (a .ids .now)) range in
-    (λ d. listedOf (record { status = success; remaining = c .remaining-capacity-for-fab .ensures d; len = size d; state = a .self }) (ids d))
-    ∙ list-fits (sceneIds (a .key) t) (remaining (a .self) (a .keys .now) (a .key .fabric)) (a .ids .now) t (fitting (a .key) t range (count .count-fits .ensures) (list .before .before .if2 .taken))
-    ∙ when-passed (unlisted (a .ids .now) t) _ _ (sym n ∙ count .before .before .if1 .left)
+    let size = list .list-scenes .ensures .0 ∙ size-of (a .key) t in
+    (λ d. listedOf (record { status = success; remaining = c .remaining-capacity-for-fab .ensures d; len = size d; state = a .self }) (list .list-scenes .ensures .1 d))
+    ∙ list-fits (sceneIds (a .key) t) (remaining (a .self) (a .keys .now) (a .key .fabric)) (a .ids .now) t (fitting (a .key) t (count .count-fits .ensures) (list .before .before .if2 .taken))
+    ∙ when-passed (unlisted (a .ids .now) t) _ _ (sym n ∙ count .before .if1 .left)
 
 refused-requires-2 : tie.Need-refused-requires-2
 refused-requires-2 c κs = search needs
@@ -115,13 +107,13 @@ returns-3 : tie.Need-returns-3
 unfolding getSceneMembership
 returns-3 c =
     let count = c .before .before in
-    let call = count .before .before .before in
+    let call = count .before .before in
     let a = call .before .before .before .before .before .before .before .args in
     let t = tableOf (a .self) (a .keys .now) (a .times .now) (a .fields .now) (a .records .now) in
     let n = call .refusal .ensures ∙ ap (refusalOf t) (call .before .group-gate .ensures) in
     (λ d. listedOf (c .refused2 .ensures d) (a .ids .now))
-    ∙ list-long (sceneIds (a .key) t) (remaining (a .self) (a .keys .now) (a .key .fabric)) (a .ids .now) t (too-long (a .key) t (count .before .of-group .ensures) (count .count-fits .ensures) (c .before .if2 .left))
-    ∙ when-passed (unlisted (a .ids .now) t) _ _ (sym n ∙ count .before .before .if1 .left)
+    ∙ list-long (sceneIds (a .key) t) (remaining (a .self) (a .keys .now) (a .key .fabric)) (a .ids .now) t (too-long (a .key) t (count .count-fits .ensures) (c .before .if2 .left))
+    ∙ when-passed (unlisted (a .ids .now) t) _ _ (sym n ∙ count .before .if1 .left)
 
 pub get-scene-membership-spec : {M : Type 1} → statement M
 get-scene-membership-spec =
@@ -131,7 +123,6 @@ get-scene-membership-spec =
     refusal-requires
     refused-requires
     returns
-    of-group-requires
     count-fits-requires
     list-scenes-requires
     remaining-capacity-for-fab-requires

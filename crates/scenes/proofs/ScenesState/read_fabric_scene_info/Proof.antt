@@ -3,10 +3,9 @@ use Prim.Native.Nat.{_<_}
 use mathlib.Core.Path.{_≡_, sym, ap, _∙_}
 use native.Mathlib.Omega.{arith}
 use Rattle.words.specs.Constants.{success}
-use Rattle.words.specs.Words.{groupOf, sceneOf, endpointKeys}
+use Rattle.words.specs.Words.{groupOf, sceneOf}
 use Rattle.words.specs.declared.Found.{Found}
 use Rattle.words.specs.declared.Found.the-variants.{At, Nothing}
-use Rattle.slots.specs.Slots.{countKeys}
 use Rattle.records.specs.Records.{firstOwned}
 use Rattle.records.proofs.Laws.{found-under}
 use Rattle.requests.specs.Requests.{infoGate}
@@ -32,13 +31,9 @@ passed c = passes _ _ _ _ (c .before .before .info-gate .ensures) (c .before .re
 room : (c : tie.Else1) → Room (came (c .before))
 room c = passed-room _ _ (passed c)
 
-counted : (c : tie.After-count)
-    → (let a = start (c .before .before .before) .args in c .count .result ≡ countKeys (a .keys .now) (a .self .entries) (endpointKeys (a .fabric) (a .endpoint)))
-counted c = c .count .ensures ∙ ap (countKeys _ _) (c .before .of-endpoint .ensures)
-
 -- the fabric's record
 abbrev owned : tie.After-find → Found
-owned c = let r = c .before .before .before .before .before in firstOwned (start r .args .records .now) (start r .args .self .recorded) (start r .args .fabric) (start r .args .endpoint)
+owned c = let r = c .before .before .before .before in firstOwned (start r .args .records .now) (start r .args .self .recorded) (start r .args .fabric) (start r .args .endpoint)
 
 none : (c : tie.After-enum-told) → Nothing ≡ owned (c .before .before)
 none c = sym (c .enum-told .given .1) ∙ c .before .before .find .ensures
@@ -46,7 +41,7 @@ none c = sym (c .enum-told .given .1) ∙ c .before .before .find .ensures
 known : (c : tie.After-at) → At (c .at .given .0 .0) ≡ owned (c .before .before)
 known c = sym (c .at .given .1) ∙ c .before .before .find .ensures
 
-under : (c : tie.After-at) → c .at .given .0 .0 < start (c .before .before .before .before .before .before .before) .args .self .recorded
+under : (c : tie.After-at) → c .at .given .0 .0 < start (c .before .before .before .before .before .before) .args .self .recorded
 under c = found-under _ _ _ _ _ (sym (known c))
 
 info-gate-requires : tie.Need-info-gate-requires
@@ -62,17 +57,14 @@ returns : tie.Need-returns
 unfolding readFabricSceneInfo
 returns c = c .absent .ensures ∙ refuses (came (c .before .before)) _ _ _ (c .before .before .before .info-gate .ensures) (c .before .before .refusal .ensures) _ _ (c .before .if1 .taken)
 
-of-endpoint-requires : tie.Need-of-endpoint-requires
-of-endpoint-requires c κs = search needs
-
 count-requires : tie.Need-count-requires
-count-requires c κs = let h = room (c .before) in omega arith
+count-requires c κs = let h = room c in omega arith
 
 remaining-capacity-for-fab-requires : tie.Need-remaining-capacity-for-fab-requires
-remaining-capacity-for-fab-requires c κs = let h = room (c .before .before) in omega arith
+remaining-capacity-for-fab-requires c κs = let h = room (c .before) in omega arith
 
 find-requires : tie.Need-find-requires
-find-requires c κs = let h = room (c .before .before .before) in omega arith
+find-requires c κs = let h = room (c .before .before) in omega arith
 
 enum-known-at : tie.Need-enum-known-at
 enum-known-at c = search needs
@@ -87,11 +79,11 @@ returns-2 : tie.Need-returns-2
 unfolding readFabricSceneInfo
 returns-2 c =
     let e = c .before .before in
-    let p = e .before .before .before .before .before .before in
+    let p = e .before .before .before .before .before in
     let t = came (p .before) in
     let fabric = start (p .before) .args .fabric in
     let rem = e .before .before .before .remaining-capacity-for-fab .ensures in
-    let n = counted (e .before .before .before .before) in
+    let n = e .before .before .before .before .count .ensures in
     no-row fabric _ _ t _ _ rem n _ (c .absent2 .ensures) (none e) (c .before .if2 .taken)
     ∙ when-passed _ _ _ (passed p)
 
@@ -102,19 +94,19 @@ returns-3 : tie.Need-returns-3
 unfolding readFabricSceneInfo
 returns-3 c =
     let e = c .before .before in
-    let p = e .before .before .before .before .before .before in
+    let p = e .before .before .before .before .before in
     let t = came (p .before) in
     let fabric = start (p .before) .args .fabric in
     let rem = e .before .before .before .remaining-capacity-for-fab .ensures in
-    let n = counted (e .before .before .before .before) in
+    let n = e .before .before .before .before .count .ensures in
     entries-row fabric _ _ t _ _ rem n _ (c .row .ensures) (none e) (c .before .if2 .left)
     ∙ when-passed _ _ _ (passed p)
 
 mul-word : tie.Need-mul-word
-mul-word c = let h = room (c .before .before .before .before .before .before .before) in let u = under (c .before) in omega arith
+mul-word c = let h = room (c .before .before .before .before .before .before) in let u = under (c .before) in omega arith
 
 shared-slice-read-word : tie.Need-shared-slice-read-word
-shared-slice-read-word c = let h = room (c .before .before .before .before .before .before .before .before) in let u = under (c .before .before) in omega arith
+shared-slice-read-word c = let h = room (c .before .before .before .before .before .before .before) in let u = under (c .before .before) in omega arith
 
 key-of-record-requires : tie.Need-key-of-record-requires
 key-of-record-requires c κs = search needs
@@ -135,11 +127,11 @@ returns-4 : tie.Need-returns-4
 unfolding readFabricSceneInfo
 returns-4 c =
     let a = c .before .before .before .before .before .before .before in
-    let p = a .before .before .before .before .before .before in
+    let p = a .before .before .before .before .before in
     let t = came (p .before) in
     let fabric = start (p .before) .args .fabric in
     let rem = a .before .before .before .remaining-capacity-for-fab .ensures in
-    let n = counted (a .before .before .before .before) in
+    let n = a .before .before .before .before .count .ensures in
     let key = c .before .before .before .before .key-of-record .ensures in
     record-row fabric _ _ t _ _ rem n _ _ _ _ _ (c .row2 .ensures) (known a) (c .before .before .before .group-of .ensures ∙ ap groupOf key) (c .before .before .scene-of .ensures ∙ ap sceneOf key) (c .before .is-valid .ensures)
     ∙ when-passed _ _ _ (passed p)
@@ -152,7 +144,6 @@ read-fabric-scene-info-spec =
     refusal-requires
     absent-requires
     returns
-    of-endpoint-requires
     count-requires
     remaining-capacity-for-fab-requires
     find-requires

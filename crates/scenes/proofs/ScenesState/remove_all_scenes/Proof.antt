@@ -32,11 +32,11 @@ room c = passed-room _ _ (passed c)
 
 -- the table without the group's entries
 abbrev left : tie.After-retain → Table
-left c = let k = c .retain in tableOf (k .result) (k .last .1 .0) (k .last .1 .1 .0) (k .last .1 .1 .1 .0) (start (c .before .before .before .before .before .before) .args .records .now)
+left c = let k = c .retain in tableOf (k .result) (k .last .1 .0) (k .last .1 .1 .0) (k .last .1 .1 .1 .0) (start (c .before .before .before .before .before) .args .records .now)
 
 retained : (c : tie.After-retain)
-    → (let r = c .before .before .before .before .before .before in left c ≡ withEntries (retainOutside (groupKeys (start r .args .key .fabric) (start r .args .key .endpoint) (start r .args .key .group))) (came r))
-retained c = retained-table (came (c .before .before .before .before .before .before)) _ _ _ _ _ (c .retain .ensures) _ (c .before .of-group .ensures)
+    → (let r = c .before .before .before .before .before in left c ≡ withEntries (retainOutside (groupKeys (start r .args .key .fabric) (start r .args .key .endpoint) (start r .args .key .group))) (came r))
+retained c = retained-table (came (c .before .before .before .before .before)) _ _ _ _ _ (c .retain .ensures)
 
 group-gate-requires : tie.Need-group-gate-requires
 group-gate-requires c κs = search needs
@@ -63,11 +63,8 @@ returns : tie.Need-returns
 unfolding removeAllScenes
 returns c = refuses-outcome (came (c .before .before)) _ _ _ (c .before .before .before .before .before .before .before .group-gate .ensures) (c .before .before .refusal .ensures) _ _ (c .refused .ensures) (c .before .if1 .taken)
 
-of-group-requires : tie.Need-of-group-requires
-of-group-requires c κs = search needs
-
 retain-requires : tie.Need-retain-requires
-retain-requires c κs = let h = room (c .before .before .before .before) in omega arith
+retain-requires c κs = let h = room (c .before .before .before) in omega arith
 
 same-length-5 : tie.Need-same-length-5
 same-length-5 c = search needs
@@ -85,12 +82,12 @@ returns-2 : tie.Need-returns-2
 unfolding removeAllScenes
 returns-2 c =
     let k = c .before .before .before .before .before .before .before .before in
-    let p = k .before .before .before .before .before in
+    let p = k .before .before .before .before in
     nothing-went _ (came (p .before)) _ _ (retained k) (c .if2 .taken) ∙ when-passed _ _ _ (passed p)
 
 invalidate-current-requires : tie.Need-invalidate-current-requires
 invalidate-current-requires c κs =
-    let p = c .before .before .before .before .before .before .before .before .before .before .before .before .before .before in
+    let p = c .before .before .before .before .before .before .before .before .before .before .before .before .before in
     let h = room p in
     omega (arith, retained-recorded (came (p .before)) _ _ _ _ _ (c .before .before .before .before .before .before .before .before .before .retain .ensures), h .recorded, h .records)
 
@@ -110,7 +107,7 @@ returns-3 : tie.Need-returns-3
 unfolding removeAllScenes
 returns-3 c =
     let k = c .before .before .before .before .before .before .before .before .before .before .before .before in
-    let p = k .before .before .before .before .before in
+    let p = k .before .before .before .before in
     ap (resultOf success true) (changed-current (left k) (invalidateCurrent (Group (start (p .before) .args .key))) _ _ (c .before .before .invalidate-current .ensures))
     ∙ something-went _ (came (p .before)) _ _ (retained k) (c .before .before .before .before .if2 .left)
     ∙ when-passed _ _ _ (passed p)
@@ -127,7 +124,6 @@ remove-all-scenes-spec =
     same-length-3
     same-length-4
     returns
-    of-group-requires
     retain-requires
     same-length-5
     same-length-6

@@ -34,11 +34,11 @@ fits c = sound-fits _ (passed-sound _ _ (passed c))
 
 -- the table without the fabric's entries
 abbrev left : tie.After-retain → Table
-left c = let k = c .retain in tableOf (k .result) (k .last .1 .0) (k .last .1 .1 .0) (k .last .1 .1 .1 .0) (start (c .before .before .before .before .before .before) .args .records .now)
+left c = let k = c .retain in tableOf (k .result) (k .last .1 .0) (k .last .1 .1 .0) (k .last .1 .1 .1 .0) (start (c .before .before .before .before .before) .args .records .now)
 
 retained : (c : tie.After-retain)
-    → (let r = c .before .before .before .before .before .before in left c ≡ withEntries (retainOutside (fabricKeys (start r .args .fabric))) (came r))
-retained c = retained-table (came (c .before .before .before .before .before .before)) _ _ _ _ _ (c .retain .ensures) _ (c .before .of-fabric .ensures)
+    → (let r = c .before .before .before .before .before in left c ≡ withEntries (retainOutside (fabricKeys (start r .args .fabric))) (came r))
+retained c = retained-table (came (c .before .before .before .before .before)) _ _ _ _ _ (c .retain .ensures)
 
 fabric-gate-requires : tie.Need-fabric-gate-requires
 fabric-gate-requires c κs = search needs
@@ -65,24 +65,21 @@ returns : tie.Need-returns
 unfolding removeForFabric
 returns c = refuses-outcome (came (c .before .before)) _ _ _ (c .before .before .before .before .before .before .before .fabric-gate .ensures) (c .before .before .refusal .ensures) _ _ (c .refused .ensures) (c .before .if1 .taken)
 
-of-fabric-requires : tie.Need-of-fabric-requires
-of-fabric-requires c κs = search needs
-
 retain-requires : tie.Need-retain-requires
-retain-requires c κs = let h = fits (c .before .before .before .before) in omega arith
+retain-requires c κs = let h = fits (c .before .before .before) in omega arith
 
 retain-requires-2 : tie.Need-retain-requires-2
-retain-requires-2 c κs = let h = fits (c .before .before .before .before .before .before .before .before .before .before .before .before) in omega (arith, h .recorded, h .records)
+retain-requires-2 c κs = let h = fits (c .before .before .before .before .before .before .before .before .before .before .before) in omega (arith, h .recorded, h .records)
 
 add-if2 : tie.Need-add-if2
 add-if2 c =
-    let p = c .before .before .before .before .before .before .before .before .before .before .before .before .before .before .before .before in
+    let p = c .before .before .before .before .before .before .before .before .before .before .before .before .before .before .before in
     let h = fits p in
     let t = came (p .before) in
     omega (arith, h .most, h .entries, h .recorded, retained-entries t _ _ _ _ _ (c .before .before .before .before .before .before .before .before .before .before .before .retain .ensures), c .before .before .before .retain2 .ensures .0, others-le (t .records) (t .state .recorded) (start (p .before) .args .fabric))
 
 add-if2-2 : tie.Need-add-if2-2
-add-if2-2 c = let h = fits (c .before .before .before .before .before .before .before .before .before .before .before .before .before .before .before .before) in omega (arith, h .most, h .entries, h .recorded)
+add-if2-2 c = let h = fits (c .before .before .before .before .before .before .before .before .before .before .before .before .before .before .before) in omega (arith, h .most, h .entries, h .recorded)
 
 bump-info-dataver-requires : tie.Need-bump-info-dataver-requires
 bump-info-dataver-requires c κs = search needs
@@ -103,7 +100,7 @@ returns-2 : tie.Need-returns-2
 unfolding removeForFabric
 returns-2 c =
     let k = c .before .before .before .before .before .before .before .before .before .before .before .before .before in
-    let p = k .before .before .before .before .before in
+    let p = k .before .before .before .before in
     let t = came (p .before) in
     let fabric = start (p .before) .args .fabric in
     let e = c .before .before .before .before .before .retain2 .ensures in
@@ -128,7 +125,7 @@ returns-3 : tie.Need-returns-3
 unfolding removeForFabric
 returns-3 c =
     let k = c .before .before .before .before .before .before .before .before .before .before .before .before in
-    let p = k .before .before .before .before .before in
+    let p = k .before .before .before .before in
     let t = came (p .before) in
     let fabric = start (p .before) .args .fabric in
     let e = c .before .before .before .before .retain2 .ensures in
@@ -148,7 +145,6 @@ remove-for-fabric-spec =
     same-length-3
     same-length-4
     returns
-    of-fabric-requires
     retain-requires
     retain-requires-2
     add-if2

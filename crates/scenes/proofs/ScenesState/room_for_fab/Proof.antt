@@ -1,39 +1,47 @@
 -- `ScenesState::room_for_fab` meets its contract. Assumes nothing.
+use Prim.Native.Nat.{ℕ, _-_, _/_, _≤_, min}
+use mathlib.Core.Path.{_≡_}
+use native.Mathlib.Omega.{arith}
 use Rattle.scenes.specs.Capacity.{roomFor}
 use borrow.Author.Needs.{needs}
 use Rattle.scenes.proofs.ScenesState.room_for_fab.Statement.{statement}
 use Rattle.scenes.proofs.ScenesState.room_for_fab.Tie as tie
 
-of-fabric-requires : tie.Need-of-fabric-requires
-of-fabric-requires c κs = search needs
+-- a full table
+none-left : (share size entries : ℕ) → size ≤ entries → 0 ≡ min share (size - entries)
+none-left share size entries h = omega arith
+
+returns : tie.Need-returns
+unfolding roomFor
+returns c = none-left _ _ _ (c .if1 .taken)
 
 count-requires : tie.Need-count-requires
 count-requires c κs = search needs
 
+sub-saturating-sub : tie.Need-sub-saturating-sub
+sub-saturating-sub c = search needs
+
 saturating-sub-requires : tie.Need-saturating-sub-requires
 saturating-sub-requires c κs = search needs
 
-saturating-sub-requires-2 : tie.Need-saturating-sub-requires-2
-saturating-sub-requires-2 c κs = search needs
-
-saturating-sub-requires-3 : tie.Need-saturating-sub-requires-3
-saturating-sub-requires-3 c κs = search needs
+sub-global-remaining : tie.Need-sub-global-remaining
+sub-global-remaining c = search needs
 
 least-requires : tie.Need-least-requires
 least-requires c κs = search needs
 
-returns : tie.Need-returns
+returns-2 : tie.Need-returns-2
 unfolding roomFor
-returns c = cc
+returns-2 c = cc
 
 pub room-for-fab-spec : {M : Type 1} → statement M
 room-for-fab-spec =
     tie.close
     (tie.spec
-    of-fabric-requires
+    returns
     count-requires
+    sub-saturating-sub
     saturating-sub-requires
-    saturating-sub-requires-2
-    saturating-sub-requires-3
+    sub-global-remaining
     least-requires
-    returns)
+    returns-2)
