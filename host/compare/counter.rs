@@ -24,6 +24,8 @@ fn once<S: Side>(side: &mut S, plan: Plan, call: fn(&mut S, Plan) -> u8) {
 pub struct Caller;
 
 impl Meter for Caller {
+    const PASSES: usize = 1;
+
     fn pair<A: Side, B: Side>(&mut self, a: &mut A, b: &mut B, plan: Plan, ra: &Row<A>, rb: &Row<B>) -> (f64, f64) {
         once(a, plan, ra.call);
         once(b, plan, rb.call);
@@ -49,6 +51,8 @@ impl Counts {
 }
 
 impl Meter for Counts {
+    const PASSES: usize = 1;
+
     fn pair<A: Side, B: Side>(&mut self, _: &mut A, _: &mut B, _: Plan, _: &Row<A>, _: &Row<B>) -> (f64, f64) {
         let (ours, published, none) = (self.next(), self.next(), self.next());
         (ours - none, published - none)

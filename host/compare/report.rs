@@ -8,12 +8,15 @@ use crate::timer::Timer;
 
 /// What a call of either side costs, without what a call costs that does nothing.
 pub trait Meter {
+    /// How often everything is measured: of each cell the pass counts in which the machine disturbed it least.
+    const PASSES: usize;
     fn pair<A: Side, B: Side>(&mut self, a: &mut A, b: &mut B, plan: Plan, ra: &Row<A>, rb: &Row<B>) -> (f64, f64);
 }
 
 const ABOUT: &str = "
 Each cell has ours, the Rust's, and their ratio: below 1 ours is faster. A number in brackets behind a row's name is a refusal, which both
-answer. A time is the median of 20,025 single calls, less that of a call that does nothing; the sides take turns. The table is in the cache.
+answer. A time is the median of 4,025 single calls, less that of a call that does nothing, in the least disturbed of 15 passes; the sides take
+turns. The table is in the cache.
 
 Ours: the call as a host makes it through the static library, with the test that the whole table is sound. A recall is two calls, and so
 is a view whose fields are copied. The Rust: the handler of the published scenes.rs, compiled with the driver, without a soundness test.
@@ -24,6 +27,9 @@ A table has four fabrics with four groups each on one endpoint, a current scene 
 empty table an overwrite, a store and the views find nothing.";
 
 const SIZES: [usize; 4] = [16, 64, 256, 1024];
+
+/// How full the tables are, in halves.
+const FILLINGS: [(&str, usize); 3] = [("Full tables", 2), ("Half full tables", 1), ("Empty tables", 0)];
 
 struct Cell {
     ours: f64,
@@ -84,14 +90,27 @@ fn machine() -> String {
     line.and_then(|line| line.split(": ").nth(1)).unwrap_or("an unknown processor").into()
 }
 
-/// A table for each of three fillings. The cells of the first.
-fn tables(meter: &mut impl Meter) -> Vec<Vec<Cell>> {
-    let mut all = [("Full tables", 2), ("Half full tables", 1), ("Empty tables", 0)].map(|(title, part)| {
-        let columns: Vec<_> = SIZES.iter().map(|&size| sized(size, part, meter)).collect();
-        print(title, &columns);
-        columns
-    });
-    std::mem::take(&mut all[0])
+/// Every cell: by filling, size and row.
+fn pass(meter: &mut impl Meter) -> Vec<Vec<Vec<Cell>>> {
+    let sizes = |part: usize, meter: &mut _| SIZES.iter().map(|&size| sized(size, part, meter)).collect();
+    FILLINGS.iter().map(|&(_, part)| sizes(part, meter)).collect()
+}
+
+/// A table for each filling. The cells.
+fn tables<M: Meter>(meter: &mut M) -> Vec<Vec<Vec<Cell>>> {
+    let mut best = pass(meter);
+    for _ in 1..M::PASSES {
+        let cells = best.iter_mut().flatten().flatten();
+        for (cell, other) in cells.zip(pass(meter).into_iter().flatten().flatten()) {
+            if other.ours + other.published < cell.ours + cell.published {
+                *cell = other;
+            }
+        }
+    }
+    for (columns, (title, _)) in best.iter().zip(FILLINGS) {
+        print(title, columns);
+    }
+    best
 }
 
 fn panels(columns: &[Vec<Cell>]) -> Vec<Panel> {
@@ -112,8 +131,8 @@ pub fn main() {
             println!("# Ours and the published Rust\n");
             println!("Measured on {}; a time stamp tick is {:.3} ns.", machine(), timer.tick);
             println!("{ABOUT}\n\n## Nanoseconds of a call");
-            let full = tables(&mut timer);
-            std::fs::write(picture, picture::svg(&panels(&full), &SIZES)).unwrap();
+            let cells = tables(&mut timer);
+            std::fs::write(picture, picture::svg(&panels(&cells[0]), &SIZES)).unwrap();
         }
         ["calls"] => drop(tables(&mut Caller)),
         ["counts", folder] => {

@@ -8,7 +8,7 @@ use crate::rows::{Plan, Row, Side};
 
 /// A round is so many calls of one side and then of the other, so that a change of the machine's pace meets both.
 const CALLS: usize = 25;
-const ROUNDS: usize = 801;
+const ROUNDS: usize = 161;
 
 fn now() -> u64 {
     // SAFETY: every x86-64 processor has both.
@@ -52,6 +52,8 @@ fn median(ticks: &mut [u64]) -> f64 {
 }
 
 impl Meter for Timer {
+    const PASSES: usize = 15;
+
     fn pair<A: Side, B: Side>(&mut self, a: &mut A, b: &mut B, plan: Plan, ra: &Row<A>, rb: &Row<B>) -> (f64, f64) {
         let (mut ta, mut tb, mut idle) = (Vec::new(), Vec::new(), Vec::new());
         for warm in [true, false] {
