@@ -87,7 +87,7 @@ pub fn count_fits(keys: &[u64], n: usize, range: KeyRange, most: usize) -> bool
 }
 
 // Whether the entry at a position is not sound: a key word that is not below 2^48 or has fabric 0, or more field bytes than there is room
-// for. The upper half of a key word decides, and a single comparison of it, so that LLVM tests the key words of a block at once.
+// for. How far its upper half lies past the first sound one, modulo 2^32, tells of a key word in one comparison, and of four at once.
 fn is_unsound(keys: &[u64], fields: &[u8], at: usize) -> bool
     requires { ⌜ at < length (now keys) ⌝ }
     requires { ⌜ at * stride + stride ≤ length (now fields) ⌝ }

@@ -82,7 +82,7 @@ impl Slot {
     pub const END_OF_CONTAINER: u8 = 0x18;
 }
 
-// The units of a key word's parts; below END they are key words, and from VALID on a record is valid.
+// The units of a key word's parts, the marks of record words, and what a sound key word's upper half is.
 pub struct KeyWord;
 
 impl KeyWord {
@@ -92,14 +92,12 @@ impl KeyWord {
 
     pub const FABRIC: u64 = 0x100_0000_0000;
 
-    pub const END: u64 = 0x1_0000_0000_0000;
-
-    // The mark of a valid record word.
+    // The mark of a valid record word: key words are below it.
     pub const VALID: u64 = 0x1_0000_0000_0000;
 
     pub const RECORD_END: u64 = 0x2_0000_0000_0000;
 
-    // What the upper half of a word counts; from the half that FABRIC has on, so many halves are those of key words with a fabric.
+    // What the upper half of a word counts. Key words with a fabric from 1 to 255 have one of UPPERS halves, from FIRST_UPPER on.
     pub const UPPER: u64 = 0x1_0000_0000;
 
     pub const FIRST_UPPER: u64 = 0x100;
@@ -185,7 +183,7 @@ impl KeyRange {
     }
 }
 
-// The fabric of a key word: below 256 where the word is below END.
+// The fabric of a key word: below 256 where the word is below VALID.
 pub fn fabric_of(word: u64) -> u64
     ensures { λ r. ⌜ r ≡ fabricOf word ⌝ }
 {
