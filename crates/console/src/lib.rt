@@ -109,7 +109,7 @@ fn step(
 
 // Runs the lines that end in a chunk.
 fn feed(
-    machine: Machine,
+    mut m: Machine,
     keys: &mut [u64],
     times: &mut [u32],
     fields: &mut [u8],
@@ -120,7 +120,6 @@ fn feed(
     chunk: &[u8],
     out: &mut [u8],
 ) -> Fed {
-    let mut m = machine;
     let mut held = before;
     let mut from = 0;
     let mut at = 0;
@@ -171,18 +170,8 @@ fn run(
             break;
         }
         let n = io::count(got, chunk);
-        let fed = feed(
-            m,
-            keys,
-            times,
-            fields,
-            records,
-            ids,
-            line,
-            held,
-            &chunk[..n],
-            out,
-        );
+        let part = &chunk[..n];
+        let fed = feed(m, keys, times, fields, records, ids, line, held, part, out);
         m = fed.machine;
         held = fed.held;
         if !fed.open {

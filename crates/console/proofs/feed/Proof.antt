@@ -9,7 +9,7 @@ use Rattle.console.proofs.feed.Statement.{statement}
 use Rattle.console.proofs.feed.Tie as tie
 
 abbrev Inv-loop : tie.InvT-loop
-Inv-loop keys₀ times₀ fields₀ records₀ ids₀ line₀ before chunk out₀ m₀ held₀ from₀ at₀ keys times fields records ids line out m held from at =
+Inv-loop m₀ keys₀ times₀ fields₀ records₀ ids₀ line₀ before chunk out₀ held₀ from₀ at₀ m keys times fields records ids line out held from at =
     (length keys ≡ length keys₀)
     × (length times ≡ length times₀)
     × (length fields ≡ length fields₀)
@@ -19,7 +19,7 @@ Inv-loop keys₀ times₀ fields₀ records₀ ids₀ line₀ before chunk out�
     × (length out ≡ length out₀)
 
 abbrev μ-loop : tie.MeasureT-loop
-μ-loop keys₀ times₀ fields₀ records₀ ids₀ line₀ before chunk out₀ m₀ held₀ from₀ at₀ keys times fields records ids line out m held from at =
+μ-loop m₀ keys₀ times₀ fields₀ records₀ ids₀ line₀ before chunk out₀ held₀ from₀ at₀ m keys times fields records ids line out held from at =
     length chunk - from
 
 loop-holds : tie.Need-loop-holds Inv-loop μ-loop

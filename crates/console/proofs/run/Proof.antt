@@ -32,11 +32,11 @@ read-requires c κs = search needs
 count-requires : tie.Need-count-requires Inv-loop μ-loop
 count-requires c κs = search needs
 
-slice-reshare-prefix-feed : tie.Need-slice-reshare-prefix-feed Inv-loop μ-loop
-slice-reshare-prefix-feed c = search needs
+slice-reshare-prefix-part : tie.Need-slice-reshare-prefix-part Inv-loop μ-loop
+slice-reshare-prefix-part c = search needs
 
-slice-aggregate-feed : tie.Need-slice-aggregate-feed Inv-loop μ-loop
-slice-aggregate-feed c = sym (length-take-le _ _ (search needs))
+slice-aggregate-part : tie.Need-slice-aggregate-part Inv-loop μ-loop
+slice-aggregate-part c = sym (length-take-le _ _ (search needs))
 
 feed-requires : tie.Need-feed-requires Inv-loop μ-loop
 feed-requires c κs = search needs
@@ -155,8 +155,8 @@ run-spec =
     loop-holds
     read-requires
     count-requires
-    slice-reshare-prefix-feed
-    slice-aggregate-feed
+    slice-reshare-prefix-part
+    slice-aggregate-part
     feed-requires
     same-length
     same-length-2
