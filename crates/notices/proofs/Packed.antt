@@ -19,11 +19,11 @@ use Rattle.records.specs.declared.Scope.the-variants.{Endpoint}
 use Rattle.records.specs.Records as Words
 use Rattle.records.proofs.View.{sound-at}
 use Rattle.scenes.specs.Table.{Table, withCurrent}
-use Rattle.scenes.specs.Sound.{fits, sound}
+use Rattle.scenes.specs.Sound.{inBounds, sound}
 use Rattle.scenes.specs.Answer.{resultOf, refused, refusalOf, guarded}
 use Rattle.scenes.specs.Current.{invalidateCurrent}
 use Rattle.scenes.specs.Lifecycle.{scenableAttributeChanged}
-use Rattle.scenes.proofs.Laws.{sound-fits}
+use Rattle.scenes.proofs.Laws.{sound-bounds}
 use Rattle.notices.specs.declared.CurrentScene.{CurrentScene}
 use Rattle.notices.specs.Notice.{marked, hits, noticed, recordAt, headSound, fabricsSound, answerOf, noticeAll, noticeRecords}
 use Rattle.notices.specs.Packed.{keyIn, pack, unpack, Typed, entriesSound, Lends, packed, SameOutcome, SameRefusal, Unpacks}
@@ -133,7 +133,7 @@ module _ (e : ℕ) (t : Table) (rs : List CurrentScene) (past : List ℕ) (entri
 
   -- so soundness is what can be seen
   sound-seen : sound t ≡ (headSound (t .state) (length rs) && Words.recordsSound (t .records) n)
-  unfolding sound fits allOf headSound
+  unfolding sound inBounds allOf headSound
   sound-seen = simp (unseen .keys, unseen .times, unseen .fields, unseen .words, unseen .lengths, lends .long, and-true)
 
   -- the word at a position below the count
@@ -185,7 +185,7 @@ same-outcome e t rs past entries lends = same e t rs past entries lends
 head-sound : (t : Table) (rs : List CurrentScene) → length (t .records) ≡ length rs → sound t ≡ true → headSound (t .state) (length rs) ≡ true
 unfolding headSound
 head-sound t rs long s =
-    let f = sound-fits t s in
+    let f = sound-bounds t s in
     let room : t .state .size ≤ length rs = omega (arith, f .records, long) in
     all-more _ _ (le-leb _ _ (f .most)) (all-more _ _ (le-leb _ _ (f .entries)) (all-more _ _ (le-leb _ _ (f .recorded)) (all-more _ _ (le-leb _ _ room) all-none)))
 
@@ -230,7 +230,7 @@ unpacks t s =
     let s1 = all-tail _ _ s in
     let s2 = all-tail _ _ s1 in
     let s3 = all-tail _ _ s2 in
-    let f = sound-fits t s in (
+    let f = sound-bounds t s in (
       all-more _ _ (le-leb _ _ (f .keys)) (all-more _ _ (le-leb _ _ (f .times)) (all-more _ _ (le-leb _ _ (f .fields)) (all-more _ _ (all-head _ _ s1) (all-more _ _ (all-head _ _ s2) all-none)))),
       record {
         typed = unpacks-typed (t .records);

@@ -134,7 +134,7 @@ impl Pass {
     {
         let mut state = self.state;
         if self.changed {
-            state.dataver = std::num::wrapping_add_u32(state.dataver, 1);
+            state = state.bump_info_dataver();
         }
         Outcome {
             status: self.status,

@@ -21,7 +21,6 @@ use Rattle.slots.specs.Slots.{keySound, keysSound, lengthsSound}
 use Rattle.scenes.specs.declared.ScenesState.{ScenesState}
 use Rattle.scenes.specs.declared.Outcome.{Outcome}
 use Rattle.scenes.specs.Table.{Table}
-use Rattle.scenes.specs.Sound.{sound}
 use Rattle.scenes.specs.Answer.{Result, resultOf}
 use Rattle.scenes.specs.Lifecycle.{scenableAttributeChanged}
 use Rattle.notices.specs.declared.CurrentScene.{CurrentScene}

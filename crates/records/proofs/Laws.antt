@@ -21,11 +21,11 @@ use Rattle.records.specs.Records.{firstOwned, recordsOf, rememberAt, rem
 
 -- ---- which records are meant
 
--- by scene, from the tests of the owner, of the group and of the scene
-pub by-scene : (scope : Scope) (key : SceneKey) (w : ℕ) (o g s : Bool) → scope ≡ Scene key → owns w (key .fabric) (key .endpoint) ≡ o
-    → eqb (groupOf (keyOfRecord w)) (key .group) ≡ g → eqb (sceneOf (keyOfRecord w)) (key .scene) ≡ s → (o && (g && s)) ≡ inScope scope w
+-- by scene, from the tests of the owner and of group and scene
+pub by-scene : (scope : Scope) (key : SceneKey) (w : ℕ) (o s : Bool) → scope ≡ Scene key → owns w (key .fabric) (key .endpoint) ≡ o
+    → (eqb (groupOf (keyOfRecord w)) (key .group) && eqb (sceneOf (keyOfRecord w)) (key .scene)) ≡ s → (o && s) ≡ inScope scope w
 unfolding inScope
-by-scene scope key w o g s e p q r = rw (e, p, q, r)
+by-scene scope key w o s e p q = rw (e, p, q)
 
 -- by group, from the tests of the owner and of the group
 pub by-group : (scope : Scope) (key : GroupKey) (w : ℕ) (o g : Bool) → scope ≡ Group key → owns w (key .fabric) (key .endpoint) ≡ o

@@ -1,23 +1,23 @@
 -- What each change leaves of the first n record words, `take n records`, and of a word's soundness, for callers. Assumes nothing.
 use Prim.Native.Nat.{ℕ, zero, suc, _+_, _^_, _≤_, _<_}
-use mathlib.Core.Path.{_≡_, refl, sym, ap, _∙_}
-use mathlib.Core.Bool.{true, false, cond, false≢true}
+use mathlib.Core.Path.{_≡_, refl, ap, _∙_}
+use mathlib.Core.Bool.{true, false, cond}
 use mathlib.Core.List.{List, [], _∷_, _++_, map}
 use native.Mathlib.Numerals.{add-one}
 use native.Mathlib.Omega.{arith}
 use lib.Dec.{leb, ltb}
 use lib.ListN.{length, take, drop, getD, set, length-append, length-drop, length-map, length-set}
-use lib.Seq.{take-at, drop-at, take-set-lt, take-suc-set}
-use borrow.Author.Tests.{ltb-true, leb-true, lt-ltb, le-leb, eq-eqb, not-true}
+use lib.Seq.{take-at, take-set-lt, take-suc-set}
+use borrow.Author.Tests.{ltb-true, leb-true, lt-ltb, le-leb}
 use Rattle.words.specs.declared.Found.{Found}
 use Rattle.words.specs.declared.Found.the-variants.{At, Nothing}
 use Rattle.words.specs.declared.SceneKey.{SceneKey}
 use Rattle.words.specs.Words.{fabricOf, keyOfRecord, validRecord}
 use Rattle.words.proofs.Tests.{and-right, and-intro}
-use Rattle.words.proofs.Below.{every-at, every-intro, any-at, any-found, any-miss, kept-le, kept-at}
+use Rattle.words.proofs.Below.{every-at, every-intro, kept-le}
 use Rattle.records.specs.declared.Scope.{Scope}
-use Rattle.records.specs.Records.{recordSound, recordsSound, Records, recordsOf, firstOwned, rememberAt, remember, hits, anyHit, cleared, mapFirst, invalidated, othersOf, moved}
-use Rattle.records.proofs.Laws.{found-under, remember-over, remember-behind, remember-dropped, invalidated-none, invalidated-miss}
+use Rattle.records.specs.Records.{recordSound, recordsSound, Records, recordsOf, firstOwned, rememberAt, remember, hits, cleared, mapFirst, invalidated, othersOf, moved}
+use Rattle.records.proofs.Laws.{found-under, remember-over, remember-behind, remember-dropped}
 
 -- ---- soundness
 
@@ -110,12 +110,6 @@ module _ (f : ℕ → ℕ) where
   map-take (suc n) [] = refl
   map-take (suc n) (x ∷ l) = ap (λ (r : List ℕ). f x ∷ r) (map-take n l)
 
-  map-drop : (n : ℕ) (l : List ℕ) → drop n (mapFirst f n l) ≡ drop n l
-  unfolding mapFirst
-  map-drop zero l = refl
-  map-drop (suc n) [] = refl
-  map-drop (suc n) (x ∷ l) = map-drop n l
-
 module _ (scope : Scope) (n : ℕ) (l : List ℕ) where
   pub length-invalidated : length (invalidated scope n l) ≡ length l
   unfolding invalidated
@@ -124,34 +118,6 @@ module _ (scope : Scope) (n : ℕ) (l : List ℕ) where
   pub take-invalidated : take n (invalidated scope n l) ≡ map (cleared scope) (take n l)
   unfolding invalidated
   take-invalidated = map-take (cleared scope) n l
-
-  pub drop-invalidated : drop n (invalidated scope n l) ≡ drop n l
-  unfolding invalidated
-  drop-invalidated = map-drop (cleared scope) n l
-
-module _ (scope : Scope) (l : List ℕ) where
-  -- a record that is hit is noticed
-  pub hit-at : (n i : ℕ) → i < n → hits scope (getD l i 0) ≡ true → anyHit scope l n ≡ true
-  unfolding anyHit
-  hit-at n i h e = any-at _ n i h e
-
-  -- what is noticed is a record that is hit
-  pub hit-found : (n : ℕ) → anyHit scope l n ≡ true → (i : ℕ) × (i < n) × (hits scope (getD l i 0) ≡ true)
-  unfolding anyHit
-  hit-found n e = any-found _ n e
-
-  -- where none is hit nothing changes
-  pub no-hit : (n : ℕ) → anyHit scope l n ≡ false → invalidated scope n l ≡ l
-  unfolding anyHit
-  no-hit zero e = invalidated-none scope l
-  no-hit (suc n) e =
-      (elim (hits scope (getD l n 0)) as (λ b. hits scope (getD l n 0) ≡ b → invalidated scope (suc n) l ≡ l) [
-        | true ↦ λ q. absurd (false≢true (sym e ∙ any-at _ (suc n) n (omega arith) q))
-        | false ↦ λ q.
-            ap (λ (m : ℕ). invalidated scope m l) (sym (add-one n))
-            ∙ sym (invalidated-miss scope l n q)
-            ∙ no-hit n (sym (any-miss _ n q) ∙ ap (anyHit scope l) (add-one n) ∙ e)
-      ]) refl
 
 -- ---- dropping a fabric's records
 
@@ -164,18 +130,7 @@ module _ (ps l : List ℕ) where
   unfolding moved
   take-moved = take-at (map (λ i. getD l i 0) ps) (drop (length ps) l) (length ps) (length-map ps (λ i. getD l i 0))
 
-  pub drop-moved : drop (length ps) (moved ps l) ≡ drop (length ps) l
-  unfolding moved
-  drop-moved = drop-at (map (λ i. getD l i 0) ps) (drop (length ps) l) (length ps) (length-map ps (λ i. getD l i 0))
-
 module _ (l : List ℕ) (n fabric : ℕ) where
   pub others-le : length (othersOf l n fabric) ≤ n
   unfolding othersOf
   others-le = kept-le _ n
-
-  -- each of the positions is below n, and another fabric's
-  pub others-at : (k : ℕ) → k < length (othersOf l n fabric) → (getD (othersOf l n fabric) k 0 < n) × (fabricOf (keyOfRecord (getD l (getD (othersOf l n fabric) k 0) 0)) ≡ fabric → ⊥)
-  unfolding othersOf
-  others-at k h =
-      let r = kept-at _ n k h in
-      (r .0, λ e. false≢true (sym (not-true _ (r .1)) ∙ eq-eqb _ fabric e))

@@ -1,7 +1,7 @@
 -- The lent record words, and what remembering, invalidating and dropping records make of them.
 -- Document 01, "Modules, leaves first": Records; and "Lifecycle" for dropping a fabric's records.
 use Prim.Native.Nat.{ℕ, zero, suc, _+_, _^_}
-use mathlib.Core.Bool.{Bool, true, false, cond, not, _&&_}
+use mathlib.Core.Bool.{Bool, cond, not, _&&_}
 use mathlib.Core.List.{List, [], _∷_, _++_, map}
 use lib.Dec.{eqb, leb, ltb}
 use lib.ListN.{length, getD, set, drop}

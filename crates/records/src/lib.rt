@@ -6,7 +6,9 @@ use words::SceneKey;
 ghost use mathlib.Core.Path.{_≡_};
 ghost use Prim.Native.Nat.{_≤_};
 ghost use lib.ListN.{length};
-ghost use Rattle.words.specs.Words.{owns};
+ghost use mathlib.Core.Bool.{_&&_};
+ghost use lib.Dec.{eqb};
+ghost use Rattle.words.specs.Words.{groupOf, sceneOf, owns};
 ghost use Rattle.records.specs.Records.{recordSound, recordsSound, firstOwned, recordsOf, remember, inScope, hits, anyHit, invalidated, othersOf, moved};
 
 // Which records are invalidated: by scene those of its fabric, group and scene, by group those of its fabric and group, neither
@@ -79,6 +81,13 @@ pub fn remember(records: &mut [u64], n: usize, size: usize, key: SceneKey) -> us
     n
 }
 
+// Whether a key word has a scene's group and id: the endpoint does not count.
+fn is_scene(word: u64, key: SceneKey) -> bool
+    ensures { λ r. ⌜ r ≡ (eqb (groupOf word) (key .group) && eqb (sceneOf word) (key .scene)) ⌝ }
+{
+    (words::group_of(word) == key.group) & (words::scene_of(word) == key.scene)
+}
+
 // Whether a record is meant, valid or not.
 pub fn is_in_scope(scope: Scope, word: u64) -> bool
     ensures { λ r. ⌜ r ≡ inScope scope word ⌝ }
@@ -87,9 +96,7 @@ pub fn is_in_scope(scope: Scope, word: u64) -> bool
     match scope {
         Scope::Scene(key) => {
             if is_owned(word, key.fabric, key.endpoint) {
-                if words::group_of(record) == key.group {
-                    return words::scene_of(record) == key.scene;
-                }
+                return is_scene(record, key);
             }
             false
         }
@@ -136,7 +143,9 @@ fn is_hit(scope: Scope, word: u64) -> bool
 // Drops those of the first n records that are a fabric's: the others move to the front, in order. How many they are.
 pub fn retain(records: &mut [u64], n: usize, fabric: u8) -> usize
     requires { ⌜ n ≤ length (now records) ⌝ }
-    ensures { λ r. ⌜ (r ≡ length (othersOf (now (records .entry)) n fabric)) × (now (records .exit) ≡ moved (othersOf (now (records .entry)) n fabric) (now (records .entry))) ⌝ }
+    ensures { λ r.
+        let kept = othersOf (now (records .entry)) n fabric in
+        ⌜ (r ≡ length kept) × (now (records .exit) ≡ moved kept (now (records .entry))) ⌝ }
 {
     let mut i = 0;
     let mut j = 0;

@@ -1,15 +1,15 @@
 -- The laws of the first refusal of a list, and of the pairs of an add. Assumes nothing.
 use Prim.Native.Nat.{ℕ, _+_, _<_, _≤_}
 use mathlib.Core.Path.{_≡_, refl, sym, ap, _∙_}
-use mathlib.Core.Bool.{Bool, true, false, cond}
-use mathlib.Core.List.{List, [], _∷_, _++_, map}
+use mathlib.Core.Bool.{true, false, cond}
+use mathlib.Core.List.{List, [], _∷_, _++_}
 use native.Mathlib.Numerals.{add-one}
-use native.Mathlib.Omega.{arith}
 use lib.Dec.{eqb}
 use lib.ListN.{length, drop, getD, drop-of-length-le}
 use lib.Seq.{drop-cons}
 use borrow.Author.Tests.{eq-eqb, ne-eqb, lt-ltb, le-ltb, eqb-true, eqb-false}
-use Rattle.requests.specs.Requests.{orNext, firstRefusal, pairGate, pairsGate}
+use Rattle.requests.specs.declared.Membership.{Membership}
+use Rattle.requests.specs.Requests.{orNext, firstRefusal, answered, memberGate, pairGate, pairsGate}
 
 pub next-pass : (a b : ℕ) → a ≡ 0 → orNext a b ≡ b
 unfolding orNext
@@ -22,6 +22,10 @@ next-refuse a b n = rw (ne-eqb a 0 n)
 pub next-last : (a : ℕ) → orNext a 0 ≡ a
 unfolding orNext
 next-last a = (elim (eqb a 0) as (λ t. eqb a 0 ≡ t → cond t 0 a ≡ a) [ true ↦ λ e. sym (eqb-true a 0 e) | false ↦ λ _. refl ]) refl
+
+-- the first of two refusals, from what each is
+pub next-both : {r a b x y : ℕ} → r ≡ orNext a b → a ≡ x → b ≡ y → r ≡ orNext x y
+next-both e p q = e ∙ (λ i. orNext (p i) (q i))
 
 pub next-assoc : (a b c : ℕ) → orNext (orNext a b) c ≡ orNext a (orNext b c)
 next-assoc a b c =
@@ -47,6 +51,11 @@ module _ (a b c d e f : ℕ) where
 
   pub passed-early : orNext a (orNext b (orNext c d)) ≡ 0 → orNext e f ≡ firstRefusal (a ∷ b ∷ c ∷ d ∷ e ∷ f ∷ [])
   passed-early z = sym (two-parts ∙ next-pass (orNext a (orNext b (orNext c d))) (orNext e f) z)
+
+-- the host's answer counts for a group other than 0
+pub asked : (group : ℕ) (member : Membership) → (group ≡ 0 → ⊥) → memberGate group member ≡ answered member
+unfolding memberGate
+asked group member n = rw (ne-eqb group 0 n)
 
 -- ---- pairs: the loop at position i has the rest of the list before it
 

@@ -22,6 +22,12 @@ firstRefusal (r ∷ rs) = orNext r (firstRefusal rs)
 abbrev pub refuseIf : Bool → ℕ → ℕ
 refuseIf b n = cond b n success
 
+-- ---- what a host says in numbers
+
+-- 1 is yes, 0 is no; at any other number the host could not tell
+unfoldable pub membershipOf : ℕ → Membership
+membershipOf n = cond (eqb n 1) Yes (cond (eqb n 0) No Failed)
+
 -- ---- single tests
 
 -- 1, fabric 0

@@ -7,13 +7,26 @@ use words::SceneId;
 use words::SceneKey;
 use words::Status;
 ghost use mathlib.Core.Path.{_≡_};
-ghost use Rattle.requests.specs.Requests.{orNext, fabricGate, sceneGate, timeGate, memberGate, sourceGate, targetGate, pairsGate, fieldsGate, captureGate, wholeGroup, copiedGate, addGate, storeGate, lookupGate, groupGate, copyGate, infoGate};
+ghost use Rattle.requests.specs.Requests.{membershipOf, orNext, fabricGate, sceneGate, timeGate, memberGate, sourceGate, targetGate, pairsGate, fieldsGate, captureGate, wholeGroup, copiedGate, addGate, storeGate, lookupGate, groupGate, copyGate, infoGate};
 
 // What the host's group table says of a group. It is looked at where a command consults it.
 pub enum Membership {
     Yes,
     No,
     Failed,
+}
+
+impl Membership {
+    // The host's answer on a group as a number: 1 is yes, 0 is no, and any other number that it could not tell.
+    pub fn of_number(answer: u8) -> Membership
+        ensures { λ r. ⌜ r ≡ membershipOf answer ⌝ }
+    {
+        match answer {
+            0 => Membership::No,
+            1 => Membership::Yes,
+            _ => Membership::Failed,
+        }
+    }
 }
 
 // A group and a scene in it.
@@ -200,10 +213,10 @@ pub fn store_gate(key: SceneKey, member: Membership, limit: usize, len: usize) -
 pub fn lookup_gate(key: SceneKey, member: Membership) -> u8
     ensures { λ r. ⌜ r ≡ lookupGate key member ⌝ }
 {
-    first(
-        fabric_gate(key.fabric),
-        first(scene_gate(key.scene), source_gate(key.group, member)),
-    )
+    let fabric = fabric_gate(key.fabric);
+    let scene = scene_gate(key.scene);
+    let group = source_gate(key.group, member);
+    first(fabric, first(scene, group))
 }
 
 // The tests of a remove all and of a membership read.

@@ -1,7 +1,7 @@
 -- The laws of what is read of the lent lists and written over them. Assumes nothing.
 use Prim.Native.Nat.{ℕ, zero, suc, _+_, _*_, _-_, _/_, _%_, _^_, _≤_, _<_}
 use mathlib.Core.Path.{_≡_, refl, sym, ap, _∙_}
-use mathlib.Core.Bool.{Bool, true, false, not, cond, _&&_, false≢true}
+use mathlib.Core.Bool.{Bool, true, false, not, cond}
 use mathlib.Core.List.{List, [], _∷_, _++_, map, append-assoc, append-nil, map-append}
 use native.Mathlib.Numerals.{add-one}
 use mathlib.Core.Logic.{⊎-elim}
@@ -11,13 +11,13 @@ use lib.Dec.{ltb, leb}
 use borrow.Author.Tests.{ltb-true, lt-ltb, le-ltb, le-leb, leb-true, leb-false}
 use lib.ListN.{length, take, drop, take-append-drop, getD, set, length-append, length-set, length-drop, length-map, List·getD-append}
 use lib.Seq.{paste, paste-zero, paste-suc, drop-paste, length-paste, drop-at, drop-cons, take-length, length-take-le, take-suc-set, drop-set-lt, append-snoc, set-split, drop-drop, take-append-seam, drop-append-seam, getD-drop, getD-take}
-use Rattle.words.proofs.Tests.{and-left, and-right, and-intro, and-false, not-true, same-test}
+use Rattle.words.proofs.Tests.{and-left, and-right, and-intro, refuted}
 use Rattle.words.proofs.Below.{kept-none, kept-hit, kept-miss, kept-le, kept-under}
-use Rattle.words.specs.Below.{countBelow, keptBelow}
+use Rattle.words.specs.Below.{anyBelow, countBelow, keptBelow}
 use Rattle.words.specs.Constants.{stride, maxFields}
 use Rattle.words.specs.Words.{within, fabricOf, sceneOf}
 use Rattle.words.specs.declared.KeyRange.{KeyRange}
-use Rattle.slots.specs.Slots.{Slots, keySound, countKeys, lengthAt, fieldsAt, lengthThen, part, overlay, laid, chunks, gathered, outside, scenesInside, copySlot}
+use Rattle.slots.specs.Slots.{Slots, keySound, ofFour, ofEight, countKeys, lengthAt, fieldsAt, lengthThen, part, overlay, laid, chunks, gathered, outside, scenesInside, copySlot}
 
 -- ---- a sound key word, by its upper half
 
@@ -27,20 +27,17 @@ past key = (key / 2 ^ 32 + (2 ^ 32 - 0x100)) % 2 ^ 32
 
 pub key-tested : (key : ℕ) → key < 2 ^ 64 → leb 0xFF00 (past key) ≡ not (keySound key)
 key-tested key h =
-    same-test (leb 0xFF00 (past key)) (not (keySound key))
-    (λ l. let k = leb-true 0xFF00 (past key) l in
-    (elim (keySound key) as (λ b. keySound key ≡ b → not b ≡ true) [
-      | true ↦ λ q. let m = ltb-true key (2 ^ 48) (and-left (ltb key (2 ^ 48)) (leb 1 (fabricOf key)) q) in
-          let f = leb-true 1 (fabricOf key) (and-right (ltb key (2 ^ 48)) (leb 1 (fabricOf key)) q) in
-          let w : ⊥ = omega arith in absurd w
-      | false ↦ λ q. refl
-    ]) refl)
-    (λ q.
-    (elim (leb 0xFF00 (past key)) as (λ b. leb 0xFF00 (past key) ≡ b → b ≡ true) [
-      | true ↦ λ _. refl
+    let below = ltb key (2 ^ 48) in
+    let named = leb 1 (fabricOf key) in
+    (elim (leb 0xFF00 (past key)) as (λ b. leb 0xFF00 (past key) ≡ b → b ≡ not (keySound key)) [
+      | true ↦ λ l. let k = leb-true 0xFF00 (past key) l in
+          sym (ap not (refuted (keySound key) (λ q.
+          let m = ltb-true key (2 ^ 48) (and-left below named q) in
+          let f = leb-true 1 (fabricOf key) (and-right below named q) in
+          omega arith)))
       | false ↦ λ l. let k = leb-false 0xFF00 (past key) l in
-          absurd (false≢true (sym (not-true (keySound key) q) ∙ and-intro (ltb key (2 ^ 48)) (leb 1 (fabricOf key)) (lt-ltb key (2 ^ 48) (omega arith)) (le-leb 1 (fabricOf key) (omega arith))))
-    ]) refl)
+          sym (ap not (and-intro below named (lt-ltb key (2 ^ 48) (omega arith)) (le-leb 1 (fabricOf key) (omega arith))))
+    ]) refl
 
 -- above a number is not at most it
 pub over-tested : (m x : ℕ) → ltb m x ≡ not (leb x m)
@@ -49,6 +46,16 @@ over-tested m x =
       | true ↦ λ e. le-ltb m x (leb-true x m e)
       | false ↦ λ e. lt-ltb m x (leb-false x m e)
     ]) refl
+
+-- ---- the positions of a block
+
+pub four-any : (p : ℕ → Bool) (i : ℕ) → anyBelow (λ j. p (i + j)) 4 ≡ ofFour p i
+unfolding anyBelow
+four-any p i = let e : i + 0 ≡ i = omega arith in rw e
+
+pub eight-any : (p : ℕ → Bool) (i : ℕ) → anyBelow (λ j. p (i + j)) 8 ≡ ofEight p i
+unfolding anyBelow
+eight-any p i = let e : i + 0 ≡ i = omega arith in rw e
 
 -- ---- lists that are alike from a position on
 

@@ -40,9 +40,6 @@ pub record SameLengths (s t : Slots) : Type 0 where
   pub times : length (s .times) ≡ length (t .times)
   pub fields : length (s .fields) ≡ length (t .fields)
 
-pub same-bounds : {s t : Slots} {n : ℕ} → SameLengths s t → Bounds t n → Bounds s n
-same-bounds e b = record { keys = omega arith; times = omega arith; fields = omega arith }
-
 pub put-lengths : {s : Slots} {n : ℕ} → Bounds s n → (at key time : ℕ) (bytes : List ℕ) → at < n → length bytes ≤ maxFields → SameLengths (putSlot at key time bytes s) s
 unfolding putSlot
 put-lengths {s} b at key time bytes h l = record {
@@ -231,10 +228,6 @@ laid-front : (new old : List ℕ) (k n : ℕ) → k + n ≤ length new → part 
 unfolding laid
 laid-front new old k n h =
     same-part (laid new old) new (length new) k n h (take-append-seam new (drop (length new) old) ∙ sym (take-length new))
-
-pub gathered-key-at : (s : Slots) (ps : List ℕ) (i : ℕ) → i < length ps → getD (gathered ps s .keys) i 0 ≡ getD (s .keys) (getD ps i 0) 0
-unfolding gathered
-gathered-key-at s ps i h = getD-picked (s .keys) ps i h
 
 pub gathered-at : {s : Slots} {n : ℕ} → Bounds s n → (ps : List ℕ) → Under ps n → (i : ℕ) → i < length ps → lengthAt (s .fields) (getD ps i 0) ≤ maxFields → SameEntry (gathered ps s) i s (getD ps i 0)
 unfolding gathered

@@ -1,7 +1,7 @@
 -- The three lent slices that hold the entries, the entry at a position, and what the functions on them compute.
 -- Document 01, "Forms that change first": SceneEntry, and how an entry is moved and written.
 use Prim.Native.Nat.{ℕ, _+_, _*_, _^_}
-use mathlib.Core.Bool.{Bool, not, _&&_}
+use mathlib.Core.Bool.{Bool, not, _&&_, _||_}
 use mathlib.Core.List.{List, [], _∷_, _++_, map}
 use lib.Dec.{eqb, leb, ltb}
 use lib.ListN.{length, take, drop, getD, set}
@@ -47,6 +47,13 @@ lengthsSound fields n = everyBelow (λ i. leb (lengthAt fields i) maxFields) n
 -- the entry at a position: its key word and its length
 abbrev pub entrySound : List ℕ → List ℕ → ℕ → Bool
 entrySound keys fields i = keySound (getD keys i 0) && leb (lengthAt fields i) maxFields
+
+-- whether p holds at one of four, or of eight, positions from i on: how a block is tested
+abbrev pub ofFour : (ℕ → Bool) → ℕ → Bool
+ofFour p i = ((p i || p (i + 1)) || p (i + 2)) || p (i + 3)
+
+abbrev pub ofEight : (ℕ → Bool) → ℕ → Bool
+ofEight p i = (((ofFour p i || p (i + 4)) || p (i + 5)) || p (i + 6)) || p (i + 7)
 
 -- the n bytes from a position on
 abbrev pub part : ℕ → ℕ → List ℕ → List ℕ

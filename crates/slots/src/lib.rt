@@ -10,14 +10,14 @@ ghost use Prim.Native.Nat.{_+_, _*_, _<_, _≤_};
 ghost use lib.ListN.{length, getD};
 ghost use Rattle.words.specs.Constants.{stride, maxFields};
 ghost use lib.Dec.{eqb, leb};
-ghost use Rattle.words.specs.Below.{everyBelow, anyBelow};
+ghost use Rattle.words.specs.Below.{everyBelow};
 ghost use Rattle.words.specs.declared.Found.the-variants.{Nothing};
-ghost use Rattle.slots.specs.Slots.{firstKey, countKeys, keysSound, lengthsSound, entrySound, lengthAt, fieldsAt, overlay, slotsOf, putSlot, copySlot, lengthThen, part, outside, gathered, laid, scenesInside};
+ghost use Rattle.slots.specs.Slots.{firstKey, countKeys, keysSound, lengthsSound, entrySound, ofFour, ofEight, lengthAt, fieldsAt, overlay, slotsOf, putSlot, copySlot, lengthThen, part, outside, gathered, laid, scenesInside};
 
 // Whether one of the eight key words from a position on is this one.
 fn in_block(keys: &[u64], at: usize, key: u64) -> bool
     requires { ⌜ at + 8 ≤ length (now keys) ⌝ }
-    ensures { λ r. ⌜ r ≡ anyBelow (λ j. eqb (getD (now (keys .entry)) (at + j) 0) key) 8 ⌝ }
+    ensures { λ r. ⌜ r ≡ ofEight (λ i. eqb (getD (now (keys .entry)) i 0) key) at ⌝ }
 {
     (keys[at] == key)
         | (keys[at + 1] == key)
@@ -103,7 +103,7 @@ fn is_unsound(keys: &[u64], fields: &[u8], at: usize) -> bool
 fn unsound_in_block(keys: &[u64], fields: &[u8], at: usize) -> bool
     requires { ⌜ at + 4 ≤ length (now keys) ⌝ }
     requires { ⌜ (at + 4) * stride ≤ length (now fields) ⌝ }
-    ensures { λ r. ⌜ r ≡ anyBelow (λ j. not (entrySound (now (keys .entry)) (now (fields .entry)) (at + j))) 4 ⌝ }
+    ensures { λ r. ⌜ r ≡ ofFour (λ i. not (entrySound (now (keys .entry)) (now (fields .entry)) i)) at ⌝ }
 {
     is_unsound(keys, fields, at)
         | is_unsound(keys, fields, at + 1)
@@ -183,7 +183,10 @@ pub fn put(
     requires { ⌜ at < length (now keys) ⌝ }
     requires { ⌜ at < length (now times) ⌝ }
     requires { ⌜ at * stride + stride ≤ length (now fields) ⌝ }
-    ensures { λ _. ⌜ slotsOf (now (keys .exit)) (now (times .exit)) (now (fields .exit)) ≡ putSlot at key time (now (ext .entry)) (slotsOf (now (keys .entry)) (now (times .entry)) (now (fields .entry))) ⌝ }
+    ensures { λ _.
+        let before = slotsOf (now (keys .entry)) (now (times .entry)) (now (fields .entry)) in
+        let after = slotsOf (now (keys .exit)) (now (times .exit)) (now (fields .exit)) in
+        ⌜ after ≡ putSlot at key time (now (ext .entry)) before ⌝ }
 {
     keys[at] = key;
     times[at] = time;
@@ -209,7 +212,10 @@ pub fn copy_slot(keys: &mut [u64], times: &mut [u32], fields: &mut [u8], from: u
     requires { ⌜ from < length (now keys) ⌝ }
     requires { ⌜ from < length (now times) ⌝ }
     requires { ⌜ from * stride + stride ≤ length (now fields) ⌝ }
-    ensures { λ _. ⌜ slotsOf (now (keys .exit)) (now (times .exit)) (now (fields .exit)) ≡ copySlot from to (slotsOf (now (keys .entry)) (now (times .entry)) (now (fields .entry))) ⌝ }
+    ensures { λ _.
+        let before = slotsOf (now (keys .entry)) (now (times .entry)) (now (fields .entry)) in
+        let after = slotsOf (now (keys .exit)) (now (times .exit)) (now (fields .exit)) in
+        ⌜ after ≡ copySlot from to before ⌝ }
 {
     if to < from {
         keys[to] = keys[from];
@@ -229,7 +235,11 @@ pub fn retain(
     requires { ⌜ n ≤ length (now keys) ⌝ }
     requires { ⌜ n ≤ length (now times) ⌝ }
     requires { ⌜ n * stride ≤ length (now fields) ⌝ }
-    ensures { λ r. ⌜ (r ≡ length (outside (now (keys .entry)) n range)) × (slotsOf (now (keys .exit)) (now (times .exit)) (now (fields .exit)) ≡ gathered (outside (now (keys .entry)) n range) (slotsOf (now (keys .entry)) (now (times .entry)) (now (fields .entry)))) ⌝ }
+    ensures { λ r.
+        let before = slotsOf (now (keys .entry)) (now (times .entry)) (now (fields .entry)) in
+        let after = slotsOf (now (keys .exit)) (now (times .exit)) (now (fields .exit)) in
+        let kept = outside (now (keys .entry)) n range in
+        ⌜ (r ≡ length kept) × (after ≡ gathered kept before) ⌝ }
 {
     let mut i = 0;
     let mut j = 0;
@@ -278,7 +288,10 @@ pub fn put_copy(
     requires { ⌜ from * stride + stride ≤ length (now fields) ⌝ }
     requires { ⌜ to * stride + stride ≤ length (now fields) ⌝ }
     requires { ⌜ lengthAt (now fields) from ≤ maxFields ⌝ }
-    ensures { λ _. ⌜ slotsOf (now (keys .exit)) (now (times .exit)) (now (fields .exit)) ≡ putSlot to key (getD (now (times .entry)) from 0) (fieldsAt (now (fields .entry)) from) (slotsOf (now (keys .entry)) (now (times .entry)) (now (fields .entry))) ⌝ }
+    ensures { λ _.
+        let before = slotsOf (now (keys .entry)) (now (times .entry)) (now (fields .entry)) in
+        let after = slotsOf (now (keys .exit)) (now (times .exit)) (now (fields .exit)) in
+        ⌜ after ≡ putSlot to key (getD (now (times .entry)) from 0) (fieldsAt (now (fields .entry)) from) before ⌝ }
 {
     let time = times[from];
     keys[to] = key;
@@ -290,7 +303,9 @@ pub fn put_copy(
 pub fn list_scenes(keys: &[u64], n: usize, range: KeyRange, ids: &mut [u8]) -> usize
     requires { ⌜ n ≤ length (now keys) ⌝ }
     requires { ⌜ countKeys (now keys) n range ≤ length (now ids) ⌝ }
-    ensures { λ r. ⌜ (r ≡ countKeys (now (keys .entry)) n range) × (now (ids .exit) ≡ laid (scenesInside (now (keys .entry)) n range) (now (ids .entry))) ⌝ }
+    ensures { λ r.
+        let listed = scenesInside (now (keys .entry)) n range in
+        ⌜ (r ≡ countKeys (now (keys .entry)) n range) × (now (ids .exit) ≡ laid listed (now (ids .entry))) ⌝ }
 {
     let mut i = 0;
     let mut j = 0;

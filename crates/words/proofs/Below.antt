@@ -1,7 +1,7 @@
 -- The laws of the positions below a count. Assumes nothing.
 use Prim.Native.Nat.{ℕ, zero, suc, _+_, _≤_, _<_}
 use mathlib.Core.Path.{_≡_, refl, sym, ap, ap₂, subst, _∙_}
-use mathlib.Core.Bool.{Bool, true, false, not, cond, _&&_, false≢true}
+use mathlib.Core.Bool.{Bool, true, false, not, cond, _&&_}
 use mathlib.Core.List.{List, [], _∷_, _++_}
 use mathlib.Core.Logic.{⊎-elim}
 use native.Mathlib.Numerals.{add-one}
@@ -92,24 +92,6 @@ module _ (p : ℕ → Bool) where
   pub any-miss : (i : ℕ) → p i ≡ false → anyBelow p (i + 1) ≡ anyBelow p i
   unfolding anyBelow
   any-miss i e = rw (add-one i, e) (or-false (anyBelow p i))
-
-  -- the position that is hit
-  pub any-at : (n i : ℕ) → i < n → p i ≡ true → anyBelow p n ≡ true
-  unfolding anyBelow
-  any-at zero i h e = absurd (not-suc-le-zero h)
-  any-at (suc n) i h e =
-      ⊎-elim (λ q. rw (← q, e) (or-true (anyBelow p i)))
-      (λ l. rw (any-at n i l e))
-      (eq-or-lt-of-le (le-of-suc-le-suc h))
-
-  -- a position that is hit
-  pub any-found : (n : ℕ) → anyBelow p n ≡ true → (i : ℕ) × (i < n) × (p i ≡ true)
-  any-found zero e = absurd (false≢true (sym any-none ∙ e))
-  any-found (suc n) e =
-      (elim (p n) as (λ b. p n ≡ b → (i : ℕ) × (i < suc n) × (p i ≡ true)) [
-        | true ↦ λ q. (n, omega arith, q)
-        | false ↦ λ q. let r = any-found n (sym (any-miss n q) ∙ ap (anyBelow p) (add-one n) ∙ e) in (r .0, omega arith, r .2)
-      ]) refl
 
   -- ---- at how many
 

@@ -1,5 +1,5 @@
 -- The laws of Booleans and of lists of conditions. Assumes nothing.
-use mathlib.Core.Path.{_≡_, refl, sym, ap, _∙_}
+use mathlib.Core.Path.{_≡_, refl, sym, ap}
 use mathlib.Core.Bool.{Bool, true, false, not, _&&_, _||_, false≢true}
 use mathlib.Core.List.{List, [], _∷_}
 use Rattle.words.specs.Conditions.{allOf}
@@ -58,6 +58,11 @@ pub either-fails : (a b : Bool) → (not a || not b) ≡ not (a && b)
 either-fails true b = refl
 either-fails false b = refl
 
+-- a test that cannot hold
+pub refuted : (a : Bool) → (a ≡ true → ⊥) → a ≡ false
+refuted true n = absurd (n refl)
+refuted false n = refl
+
 -- two tests that hold under the same condition are equal
 pub same-test : (a b : Bool) → (a ≡ true → b ≡ true) → (b ≡ true → a ≡ true) → a ≡ b
 same-test true true f g = refl
@@ -82,12 +87,3 @@ all-none = refl
 pub all-more : (b : Bool) (bs : List Bool) → b ≡ true → allOf bs ≡ true → allOf (b ∷ bs) ≡ true
 unfolding allOf
 all-more b bs h k = and-intro b (allOf bs) h k
-
--- the first condition that fails decides
-pub all-fails : (b : Bool) (bs : List Bool) → b ≡ false → allOf (b ∷ bs) ≡ false
-unfolding allOf
-all-fails b bs h = ap (λ (c : Bool). c && allOf bs) h
-
-pub all-passes : (b : Bool) (bs : List Bool) → b ≡ true → allOf (b ∷ bs) ≡ allOf bs
-unfolding allOf
-all-passes b bs h = ap (λ (c : Bool). c && allOf bs) h

@@ -1,6 +1,6 @@
 // Key words, record words and ranges of key words, with the constants of the scene table.
 ghost use mathlib.Core.Path.{_≡_};
-ghost use Prim.Native.Nat.{_+_, _<_, _^_};
+ghost use Prim.Native.Nat.{min};
 ghost use Rattle.words.specs.Words.{wordOf, fabricOf, endpointOf, groupOf, sceneOf, keyOfRecord, isValid, validRecord, within};
 
 // Status bytes that a command answers.
@@ -181,6 +181,13 @@ impl KeyRange {
             }
         }
     }
+}
+
+// The smaller of two numbers.
+pub fn least(a: usize, b: usize) -> usize
+    ensures { λ r. ⌜ r ≡ min a b ⌝ }
+{
+    if b < a { b } else { a }
 }
 
 // The fabric of a key word: below 256 where the word is below VALID.

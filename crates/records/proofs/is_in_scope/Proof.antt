@@ -1,9 +1,7 @@
 -- `records::is_in_scope` meets its contract: each arm is the definition's case. Assumes nothing.
-use mathlib.Core.Path.{refl, sym, ap, _∙_}
+use mathlib.Core.Path.{refl, sym, _∙_}
 use mathlib.Core.Bool.{true, false}
 use borrow.Author.Needs.{needs}
-use borrow.Author.Tests.{eq-eqb, ne-eqb}
-use Rattle.words.specs.Words.{groupOf}
 use Rattle.records.specs.Records.{inScope}
 use Rattle.records.proofs.Laws.{by-scene, by-group}
 use Rattle.records.proofs.is_in_scope.Statement.{statement}
@@ -18,19 +16,15 @@ enum-known-scope c = search needs
 is-owned-requires : tie.Need-is-owned-requires
 is-owned-requires c κs = search needs
 
-group-of-requires : tie.Need-group-of-requires
-group-of-requires c κs = search needs
-
-scene-of-requires : tie.Need-scene-of-requires
-scene-of-requires c κs = search needs
+is-scene-requires : tie.Need-is-scene-requires
+is-scene-requires c κs = search needs
 
 returns : tie.Need-returns
 returns c =
-    let at = c .before .before .before .before .before .before in
+    let at = c .before .before in
     let r = at .before .before .before .before .key-of-record .ensures in
-    by-scene _ _ _ true true _ (at .before .before .scope .given .1) (sym (at .is-owned .ensures) ∙ c .before .before .before .before .before .if1 .taken)
-    (eq-eqb _ _ (sym (c .before .before .before .before .group-of .ensures ∙ ap groupOf r) ∙ c .before .before .if2 .taken))
-    (rw (← r, ← c .before .scene-of .ensures))
+    by-scene _ _ _ true _ (at .before .before .scope .given .1) (sym (at .is-owned .ensures) ∙ c .before .if1 .taken)
+    (rw (← r, ← c .is-scene .ensures) refl)
 
 enum-known-scope-2 : tie.Need-enum-known-scope-2
 enum-known-scope-2 c = search needs
@@ -38,15 +32,15 @@ enum-known-scope-2 c = search needs
 is-owned-requires-2 : tie.Need-is-owned-requires-2
 is-owned-requires-2 c κs = search needs
 
-group-of-requires-2 : tie.Need-group-of-requires-2
-group-of-requires-2 c κs = search needs
+group-of-requires : tie.Need-group-of-requires
+group-of-requires c κs = search needs
 
 returns-2 : tie.Need-returns-2
 returns-2 c =
     let at = c .before .before .before in
     let r = at .before .before .before .before .key-of-record .ensures in
-    by-group _ _ _ true _ (at .before .before .scope2 .given .1) (sym (at .is-owned2 .ensures) ∙ c .before .before .if3 .taken)
-    (rw (← r, ← c .before .group-of2 .ensures))
+    by-group _ _ _ true _ (at .before .before .scope2 .given .1) (sym (at .is-owned2 .ensures) ∙ c .before .before .if2 .taken)
+    (rw (← r, ← c .before .group-of .ensures) refl)
 
 enum-known-scope-3 : tie.Need-enum-known-scope-3
 enum-known-scope-3 c = search needs
@@ -55,22 +49,14 @@ endpoint-of-requires : tie.Need-endpoint-of-requires
 endpoint-of-requires c κs = search needs
 
 returns-3 : tie.Need-returns-3
-returns-3 c =
-    let at = c .before .before .before .before in
-    let r = at .before .before .before .before .key-of-record .ensures in
-    by-scene _ _ _ true false _ (at .before .before .scope .given .1) (sym (at .is-owned .ensures) ∙ c .before .before .before .if1 .taken)
-    (ne-eqb _ _ (λ e. c .if2 .left (c .before .before .group-of .ensures ∙ ap groupOf r ∙ e)))
-    refl
+returns-3 c = by-scene _ _ _ false _ (c .before .before .before .scope .given .1) (sym (c .before .is-owned .ensures) ∙ c .if1 .left) refl
 
 returns-4 : tie.Need-returns-4
-returns-4 c = by-scene _ _ _ false _ _ (c .before .before .before .scope .given .1) (sym (c .before .is-owned .ensures) ∙ c .if1 .left) refl refl
+returns-4 c = by-group _ _ _ false _ (c .before .before .before .scope2 .given .1) (sym (c .before .is-owned2 .ensures) ∙ c .if2 .left) refl
 
 returns-5 : tie.Need-returns-5
-returns-5 c = by-group _ _ _ false _ (c .before .before .before .scope2 .given .1) (sym (c .before .is-owned2 .ensures) ∙ c .if3 .left) refl
-
-returns-6 : tie.Need-returns-6
 unfolding inScope
-returns-6 c = rw (c .before .before .scope3 .given .1, c .endpoint-of .ensures, c .before .before .before .before .key-of-record .ensures)
+returns-5 c = rw (c .before .before .scope3 .given .1, c .endpoint-of .ensures, c .before .before .before .before .key-of-record .ensures) refl
 
 pub is-in-scope-spec : {M : Type 1} → statement M
 is-in-scope-spec =
@@ -79,16 +65,14 @@ is-in-scope-spec =
     key-of-record-requires
     enum-known-scope
     is-owned-requires
-    group-of-requires
-    scene-of-requires
+    is-scene-requires
     returns
     enum-known-scope-2
     is-owned-requires-2
-    group-of-requires-2
+    group-of-requires
     returns-2
     enum-known-scope-3
     endpoint-of-requires
     returns-3
     returns-4
-    returns-5
-    returns-6)
+    returns-5)

@@ -1,6 +1,8 @@
 -- `requests::copied_gate` meets its contract. Assumes nothing.
-use mathlib.Core.Path.{sym, _∙_}
+use mathlib.Core.Path.{_≡_, sym, _∙_}
+use mathlib.Core.Bool.{true}
 use borrow.Author.Needs.{needs}
+use Rattle.requests.specs.Requests.{wholeGroup}
 use Rattle.requests.proofs.copied_gate.Statement.{statement}
 use Rattle.requests.proofs.copied_gate.Tie as tie
 
@@ -8,7 +10,9 @@ is-whole-group-requires : tie.Need-is-whole-group-requires
 is-whole-group-requires c κs = search needs
 
 returns : tie.Need-returns
-returns c = simp (sym (c .before .is-whole-group .ensures) ∙ c .if1 .taken)
+returns c =
+    let whole : wholeGroup (c .before .before .args .mode) ≡ true = sym (c .before .is-whole-group .ensures) ∙ c .if1 .taken in
+    simp whole
 
 scene-gate-requires : tie.Need-scene-gate-requires
 scene-gate-requires c κs = search needs

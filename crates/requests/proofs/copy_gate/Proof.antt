@@ -1,6 +1,7 @@
 -- `requests::copy_gate` meets its contract. Assumes nothing.
-use Rattle.requests.specs.Requests.{copyGate, firstRefusal, targetGate}
-use Rattle.requests.proofs.Laws.{next-last}
+use mathlib.Core.Path.{_≡_, sym, _∙_}
+use Rattle.requests.specs.Requests.{copyGate, firstRefusal, sourceGate, targetGate}
+use Rattle.requests.proofs.Laws.{next-both, next-last}
 use borrow.Author.Needs.{needs}
 use Rattle.requests.proofs.copy_gate.Statement.{statement}
 use Rattle.requests.proofs.copy_gate.Tie as tie
@@ -34,7 +35,15 @@ first-requires-4 c κs = search needs
 
 returns : tie.Need-returns
 unfolding copyGate firstRefusal
-returns c = let a = c .before .before .before .before .before .before .before .before .before .before .before .args in cc (next-last (targetGate (a .c .to .group) (a .target)))
+returns c =
+    let g = c .before .before .before .before in
+    let a = g .before .before .before .before .before .before .before .args in
+    let source : g .before .source-gate .result ≡ sourceGate (a .c .from .group) (a .source) = g .before .source-gate .ensures in
+    let target : g .target-gate .result ≡ targetGate (a .c .to .group) (a .target) = g .target-gate .ensures in
+    next-both (c .first4 .ensures) (g .before .before .before .before .fabric-gate .ensures)
+    (next-both (c .before .first3 .ensures) (g .before .before .before .copied-gate .ensures)
+    (next-both (c .before .before .first2 .ensures) (g .before .before .copied-gate2 .ensures)
+    (next-both (c .before .before .before .first .ensures) source (target ∙ sym (next-last _)))))
 
 pub copy-gate-spec : {M : Type 1} → statement M
 copy-gate-spec =

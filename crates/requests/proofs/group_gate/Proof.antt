@@ -1,6 +1,7 @@
 -- `requests::group_gate` meets its contract. Assumes nothing.
-use Rattle.requests.specs.Requests.{groupGate, firstRefusal, sourceGate}
-use Rattle.requests.proofs.Laws.{next-last}
+use mathlib.Core.Path.{sym, _∙_}
+use Rattle.requests.specs.Requests.{groupGate, firstRefusal}
+use Rattle.requests.proofs.Laws.{next-both, next-last}
 use borrow.Author.Needs.{needs}
 use Rattle.requests.proofs.group_gate.Statement.{statement}
 use Rattle.requests.proofs.group_gate.Tie as tie
@@ -16,7 +17,8 @@ first-requires c κs = search needs
 
 returns : tie.Need-returns
 unfolding groupGate firstRefusal
-returns c = let a = c .before .before .before .args in cc (next-last (sourceGate (a .key .group) (a .member)))
+returns c =
+    next-both (c .first .ensures) (c .before .before .fabric-gate .ensures) (c .before .source-gate .ensures ∙ sym (next-last _))
 
 pub group-gate-spec : {M : Type 1} → statement M
 group-gate-spec =

@@ -1,5 +1,5 @@
 -- `requests::info_gate` meets its contract. Assumes nothing.
-use mathlib.Core.Path.{_≡_, sym, _∙_}
+use mathlib.Core.Path.{refl, sym, _∙_}
 use Rattle.requests.specs.Requests.{infoGate, firstRefusal, orNext}
 use Rattle.requests.proofs.Laws.{next-refuse}
 use borrow.Author.Needs.{needs}
@@ -15,11 +15,11 @@ returns c = c .before .fabric-gate .ensures ∙ sym (next-refuse _ _ (λ z. c .i
 
 returns-2 : tie.Need-returns-2
 unfolding infoGate firstRefusal orNext
-returns-2 c = simp (sym (c .before .before .fabric-gate .ensures) ∙ c .before .if1 .left, c .if2 .taken)
+returns-2 c = simp (sym (c .before .before .fabric-gate .ensures) ∙ c .before .if1 .left, c .if2 .taken) refl
 
 returns-3 : tie.Need-returns-3
 unfolding infoGate firstRefusal orNext
-returns-3 c = simp (sym (c .before .before .fabric-gate .ensures) ∙ c .before .if1 .left, c .if2 .left)
+returns-3 c = simp (sym (c .before .before .fabric-gate .ensures) ∙ c .before .if1 .left, c .if2 .left) refl
 
 pub info-gate-spec : {M : Type 1} → statement M
 info-gate-spec = tie.close (tie.spec fabric-gate-requires returns returns-2 returns-3)

@@ -1,6 +1,7 @@
 -- `requests::lookup_gate` meets its contract. Assumes nothing.
-use Rattle.requests.specs.Requests.{lookupGate, firstRefusal, sourceGate}
-use Rattle.requests.proofs.Laws.{next-last}
+use mathlib.Core.Path.{_≡_, refl, sym, ap, _∙_}
+use Rattle.requests.specs.Requests.{lookupGate, firstRefusal, orNext, sceneGate, sourceGate}
+use Rattle.requests.proofs.Laws.{next-both, next-last}
 use borrow.Author.Needs.{needs}
 use Rattle.requests.proofs.lookup_gate.Statement.{statement}
 use Rattle.requests.proofs.lookup_gate.Tie as tie
@@ -22,7 +23,13 @@ first-requires-2 c κs = search needs
 
 returns : tie.Need-returns
 unfolding lookupGate firstRefusal
-returns c = let a = c .before .before .before .before .before .args in cc (next-last (sourceGate (a .key .group) (a .member)))
+returns c =
+    let g = c .before .before in
+    let a = g .before .before .before .args in
+    let scene-first : c .before .first .result ≡ orNext (sceneGate (a .key .scene)) (sourceGate (a .key .group) (a .member)) =
+    rw (c .before .first .ensures, g .before .scene-gate .ensures, g .source-gate .ensures) refl in
+    next-both (c .first2 .ensures) (g .before .before .fabric-gate .ensures)
+    (scene-first ∙ ap (orNext (sceneGate (a .key .scene))) (sym (next-last _)))
 
 pub lookup-gate-spec : {M : Type 1} → statement M
 lookup-gate-spec =

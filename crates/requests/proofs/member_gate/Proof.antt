@@ -1,13 +1,16 @@
 -- `requests::member_gate` meets its contract. Assumes nothing.
-use borrow.Author.Tests.{eq-eqb, ne-eqb}
+use mathlib.Core.Path.{sym, ap, _∙_}
+use borrow.Author.Tests.{eq-eqb}
+use native.Mathlib.Omega.{arith}
 use Rattle.requests.specs.Requests.{memberGate}
+use Rattle.requests.proofs.Laws.{asked}
 use borrow.Author.Needs.{needs}
 use Rattle.requests.proofs.member_gate.Statement.{statement}
 use Rattle.requests.proofs.member_gate.Tie as tie
 
 returns : tie.Need-returns
 unfolding memberGate
-returns c = simp (eq-eqb _ _ (c .if1 .taken))
+returns c = simp (eq-eqb (c .before .args .group) 0 (omega arith))
 
 enum-told : tie.Need-enum-told
 enum-told c = search needs
@@ -19,16 +22,19 @@ enum-told-3 : tie.Need-enum-told-3
 enum-told-3 c = search needs
 
 returns-2 : tie.Need-returns-2
-unfolding memberGate
-returns-2 c = simp (ne-eqb _ _ (c .before .before .if1 .left), c .enum-told .given .1)
+returns-2 c =
+    let group = c .before .before .before .args .group in
+    sym (ap (memberGate group) (c .enum-told .given .1) ∙ asked group _ (c .before .before .if1 .left))
 
 returns-3 : tie.Need-returns-3
-unfolding memberGate
-returns-3 c = simp (ne-eqb _ _ (c .before .before .if1 .left), c .enum-told2 .given .1)
+returns-3 c =
+    let group = c .before .before .before .args .group in
+    sym (ap (memberGate group) (c .enum-told2 .given .1) ∙ asked group _ (c .before .before .if1 .left))
 
 returns-4 : tie.Need-returns-4
-unfolding memberGate
-returns-4 c = simp (ne-eqb _ _ (c .before .before .if1 .left), c .enum-told3 .given .1)
+returns-4 c =
+    let group = c .before .before .before .args .group in
+    sym (ap (memberGate group) (c .enum-told3 .given .1) ∙ asked group _ (c .before .before .if1 .left))
 
 pub member-gate-spec : {M : Type 1} → statement M
 member-gate-spec =

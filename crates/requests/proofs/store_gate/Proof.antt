@@ -1,6 +1,7 @@
 -- `requests::store_gate` meets its contract. Assumes nothing.
-use Rattle.requests.specs.Requests.{storeGate, firstRefusal, captureGate}
-use Rattle.requests.proofs.Laws.{next-last}
+use mathlib.Core.Path.{sym, _∙_}
+use Rattle.requests.specs.Requests.{storeGate, firstRefusal}
+use Rattle.requests.proofs.Laws.{next-both, next-last}
 use borrow.Author.Needs.{needs}
 use Rattle.requests.proofs.store_gate.Statement.{statement}
 use Rattle.requests.proofs.store_gate.Tie as tie
@@ -28,7 +29,11 @@ first-requires-3 c κs = search needs
 
 returns : tie.Need-returns
 unfolding storeGate firstRefusal
-returns c = let a = c .before .before .before .before .before .before .before .args in cc (next-last (captureGate (a .limit) (a .len)))
+returns c =
+    let g = c .before .before .before in
+    next-both (c .first3 .ensures) (g .before .before .before .fabric-gate .ensures)
+    (next-both (c .before .first2 .ensures) (g .before .before .scene-gate .ensures)
+    (next-both (c .before .before .first .ensures) (g .before .target-gate .ensures) (g .capture-gate .ensures ∙ sym (next-last _))))
 
 pub store-gate-spec : {M : Type 1} → statement M
 store-gate-spec =

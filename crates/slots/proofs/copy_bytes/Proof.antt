@@ -1,8 +1,8 @@
 -- `slots::copy_bytes` meets its contract: the first i bytes are copied. Assumes nothing.
-use Prim.Native.Nat.{ℕ, _+_, _-_, _<_}
+use Prim.Native.Nat.{_+_, _-_, _<_}
 use mathlib.Core.Path.{_≡_, sym, _∙_}
 use native.Mathlib.Omega.{arith}
-use lib.ListN.{length, set, getD}
+use lib.ListN.{getD}
 use Rattle.words.specs.Constants.{stride}
 use Rattle.slots.specs.Slots.{part}
 use Rattle.slots.proofs.Laws.{Copied, copied-none, copied-more, copied-past, copied-all, getD-part, length-part}

@@ -2,9 +2,12 @@
 use Prim.Native.Nat.{_≤_, _-_}
 use mathlib.Core.Path.{_≡_, sym, _∙_}
 use native.Mathlib.Omega.{arith}
+use lib.Dec.{eqb}
+use lib.ListN.{getD}
 use Rattle.words.proofs.Below.{first-none, first-block}
 use Rattle.words.specs.declared.Found.the-variants.{Nothing}
 use Rattle.slots.specs.Slots.{firstKey}
+use Rattle.slots.proofs.Laws.{eight-any}
 use Rattle.slots.proofs.skip_blocks.Statement.{statement}
 use Rattle.slots.proofs.skip_blocks.Tie as tie
 
@@ -35,7 +38,11 @@ loop-less c = omega arith
 
 loop-again : tie.Need-loop-again Inv-loop μ-loop
 unfolding firstKey
-loop-again c = (omega arith, first-block _ _ 8 (sym (c .before .in-block .ensures) ∙ c .if1 .left) (c .before .before .before .loop .inv .1))
+loop-again c =
+    let at = c .before .before .before in
+    let a = at .before .before .args in
+    let none = eight-any (λ i. eqb (getD (a .keys .now) i 0) (a .key)) (at .loop .i) ∙ sym (c .before .in-block .ensures) ∙ c .if1 .left in
+    (omega arith, first-block _ _ 8 none (at .loop .inv .1))
 
 returns-2 : tie.Need-returns-2 Inv-loop μ-loop
 returns-2 c = c .before .loop .inv

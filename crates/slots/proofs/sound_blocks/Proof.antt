@@ -1,11 +1,12 @@
 -- `slots::sound_blocks` meets its contract: each entry below i is sound. Assumes nothing.
 use Prim.Native.Nat.{_≤_, _-_}
 use mathlib.Core.Path.{_≡_, sym, _∙_}
-use mathlib.Core.Bool.{true}
+use mathlib.Core.Bool.{true, not}
 use native.Mathlib.Omega.{arith}
 use Rattle.words.proofs.Below.{every-none, every-block}
 use Rattle.words.specs.Below.{everyBelow}
 use Rattle.slots.specs.Slots.{entrySound}
+use Rattle.slots.proofs.Laws.{four-any}
 use Rattle.slots.proofs.sound_blocks.Statement.{statement}
 use Rattle.slots.proofs.sound_blocks.Tie as tie
 
@@ -34,7 +35,11 @@ loop-less : tie.Need-loop-less Inv-loop μ-loop
 loop-less c = omega arith
 
 loop-again : tie.Need-loop-again Inv-loop μ-loop
-loop-again c = (omega arith, every-block _ _ 4 (sym (c .before .unsound-in-block .ensures) ∙ c .if1 .left) (c .before .before .before .loop .inv .1))
+loop-again c =
+    let at = c .before .before .before in
+    let a = at .before .before .before .args in
+    let none = four-any (λ i. not (entrySound (a .keys .now) (a .fields .now) i)) (at .loop .i) ∙ sym (c .before .unsound-in-block .ensures) ∙ c .if1 .left in
+    (omega arith, every-block _ _ 4 none (at .loop .inv .1))
 
 returns-2 : tie.Need-returns-2 Inv-loop μ-loop
 returns-2 c = c .before .loop .inv

@@ -1,9 +1,5 @@
 -- `slots::unsound_in_block` meets its contract. Assumes nothing.
-use Prim.Native.Nat.{_+_}
-use mathlib.Core.Path.{_≡_}
-use native.Mathlib.Omega.{arith}
 use borrow.Author.Needs.{needs}
-use Rattle.words.specs.Below.{anyBelow}
 use Rattle.slots.proofs.unsound_in_block.Statement.{statement}
 use Rattle.slots.proofs.unsound_in_block.Tie as tie
 
@@ -29,10 +25,7 @@ is-unsound-requires-4 : tie.Need-is-unsound-requires-4
 is-unsound-requires-4 c κs = search needs
 
 returns : tie.Need-returns
-unfolding anyBelow
-returns c =
-    let e : c .before .before .before .before .before .before .args .at + 0 ≡ c .before .before .before .before .before .before .args .at = omega arith in
-    rw (e, c .is-unsound4 .ensures, c .before .is-unsound3 .ensures, c .before .before .is-unsound2 .ensures, c .before .before .before .is-unsound .ensures)
+returns c = rw (c .is-unsound4 .ensures, c .before .is-unsound3 .ensures, c .before .before .is-unsound2 .ensures, c .before .before .before .is-unsound .ensures)
 
 pub unsound-in-block-spec : {M : Type 1} → statement M
 unsound-in-block-spec =

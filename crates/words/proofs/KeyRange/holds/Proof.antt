@@ -1,4 +1,5 @@
 -- `KeyRange::holds` meets its contract: each arm is the definition's case. Assumes nothing.
+use mathlib.Core.Path.{refl}
 use borrow.Author.Needs.{needs}
 use Rattle.words.specs.Words.{within}
 use Rattle.words.proofs.KeyRange.holds.Statement.{statement}
@@ -54,15 +55,15 @@ add-result-3 c = search needs
 
 returns : tie.Need-returns
 unfolding within
-returns c = rw (c .before .before .self .given .1, c .fabric-of .ensures)
+returns c = rw (c .before .before .self .given .1, c .fabric-of .ensures) refl
 
 returns-2 : tie.Need-returns-2
 unfolding within
-returns-2 c = rw (c .before .before .before .self2 .given .1)
+returns-2 c = rw (c .before .before .before .self2 .given .1) refl
 
 returns-3 : tie.Need-returns-3
 unfolding within
-returns-3 c = rw (c .before .before .before .before .self3 .given .1)
+returns-3 c = rw (c .before .before .before .before .self3 .given .1) refl
 
 pub holds-spec : {M : Type 1} → statement M
 holds-spec =
