@@ -1,72 +1,34 @@
 -- From what the called functions answer and leave to what the definitions of the calls say. Assumes nothing.
-use Prim.Native.Nat.{ℕ, _+_, _≤_, _<_, min}
-use mathlib.Core.Path.{_≡_, refl, sym, ap, _∙_}
-use mathlib.Core.Bool.{Bool, true, false, cond}
-use mathlib.Core.List.{List, _∷_}
+use Prim.Native.Nat.{ℕ, _+_, _≤_, min}
+use mathlib.Core.Path.{_≡_, sym, ap, _∙_}
+use mathlib.Core.Bool.{Bool, true, false}
+use mathlib.Core.List.{List}
 use native.Mathlib.Omega.{arith}
-use lib.Dec.{eqb, ltb}
+use lib.Dec.{ltb}
 use lib.ListN.{length, getD}
-use borrow.Author.Tests.{eq-eqb, ne-eqb, eqb-true, eqb-false, ltb-false}
-use Rattle.words.specs.Constants.{success, insufficientSpace, captureTooLong, maxFields, maxShown}
+use borrow.Author.Tests.{eq-eqb, ne-eqb}
+use Rattle.words.specs.Constants.{success, maxShown}
 use Rattle.words.specs.Words.{wordOf, groupOf, sceneOf, keyOfRecord, isValid}
 use Rattle.words.specs.declared.Found.{Found}
 use Rattle.words.specs.declared.Found.the-variants.{At, Nothing}
 use Rattle.words.specs.declared.SceneKey.{SceneKey}
 use Rattle.words.specs.declared.GroupKey.{GroupKey}
 use Rattle.words.specs.declared.KeyRange.{KeyRange}
-use Rattle.slots.specs.Slots.{Slots, firstKey}
+use Rattle.slots.specs.Slots.{firstKey}
 use Rattle.records.specs.declared.Scope.the-variants.{Group}
 use Rattle.records.specs.Records.{othersOf, moved}
 use Rattle.scenes.specs.declared.ScenesState.{ScenesState}
-use Rattle.scenes.specs.declared.Outcome.{Outcome}
 use Rattle.scenes.specs.declared.InfoRead.{InfoRead}
-use Rattle.scenes.specs.Table.{Table, tableOf, Entries, entriesOf, Current, currentOf, withEntries, withCurrent, withRecordCount, bumpIf, Room}
-use Rattle.scenes.specs.Capacity.{mayAppend, remaining}
+use Rattle.scenes.specs.Table.{Table, tableOf, Entries, entriesOf, Current, currentOf, withEntries, withCurrent, withRecordCount, bumpIf}
+use Rattle.scenes.specs.Capacity.{remaining}
 use Rattle.scenes.specs.Current.{invalidateCurrent, rememberCurrent}
-use Rattle.scenes.specs.Change.{findScene, putAt, append, Upserted, upsertedOf, written, upsertAt, upsert, swapRemove, retainOutside}
-use Rattle.scenes.specs.Answer.{Result, resultOf, refused, refusalOf, guarded}
+use Rattle.scenes.specs.Change.{findScene, Upserted, upsert, swapRemove, retainOutside}
+use Rattle.scenes.specs.Answer.{resultOf}
 use Rattle.scenes.specs.Commands.{priorTime, stored, removedAll}
 use Rattle.scenes.specs.Reads.{noRow, infoRow}
 use Rattle.scenes.specs.Lifecycle.{removedFabric}
 use Rattle.words.proofs.Below.{kept-le}
 use Rattle.slots.proofs.Laws.{outside-le}
-use Rattle.scenes.proofs.Laws.{sound-room}
-use Rattle.scenes.proofs.Guard.{when-refused, unguarded, passed-sound}
-
--- what a call answered, with the memory that it left
-abbrev pub resultIn : Slots → List ℕ → Outcome → Result
-resultIn s r o = resultOf (o .status) (o .save) (record { state = o .state; slots = s; records = r })
-
--- ---- the refusal: n is its number, g what the code made of the gate
-
-module _ (t : Table) (g gate n : ℕ) (e : g ≡ gate) (f : n ≡ refusalOf t g) where
-  pub same-refusal : n ≡ refusalOf t gate
-  same-refusal = f ∙ ap (refusalOf t) e
-
-  pub passes : n ≡ success → refusalOf t gate ≡ success
-  passes h = sym same-refusal ∙ h
-
-  pub refuses : {A : Type 0} (refuse : ℕ → A) (o : A) → (n ≡ success → ⊥) → refuse n ≡ guarded refuse (refusalOf t gate) o
-  refuses refuse o h = ap refuse same-refusal ∙ when-refused refuse (refusalOf t gate) o (λ p. h (same-refusal ∙ p))
-
-  pub refuses-outcome : (o : Outcome) (r : Result)
-      → o ≡ record { status = n; save = false; state = t .state }
-      → (n ≡ success → ⊥)
-      → resultIn (t .slots) (t .records) o ≡ guarded (refused t) (refusalOf t gate) r
-  refuses-outcome o r q h = ap (resultIn (t .slots) (t .records)) q ∙ refuses (refused t) r h
-
--- a call that does nothing
-pub answers-refusal : (t : Table) (n : ℕ) (o : Outcome)
-    → o ≡ record { status = n; save = false; state = t .state }
-    → n ≡ refusalOf t success
-    → resultIn (t .slots) (t .records) o ≡ guarded (refused t) (refusalOf t success) (refused t success)
-answers-refusal t n o e q = ap (resultIn (t .slots) (t .records)) e ∙ ap (refused t) q ∙ unguarded (refused t) (refusalOf t success)
-
--- ---- what passed its gate
-
--- the table is sound, so it has room
-pub passed-room : (t : Table) (gate : ℕ) → refusalOf t gate ≡ success → Room t
-passed-room t gate e = sound-room t (passed-sound t gate e)
 
 -- ---- the scene that a command names: w is its key word, f what a search for it found
 
@@ -119,26 +81,7 @@ module _ (t : Table) (s : ScenesState) (k tm f : List ℕ) where
 
 -- ---- store
 
--- an upsert keeps the size and how many records there are
-abbrev SameHead : Table → Upserted → Type 0
-SameHead t u = (u .table .state .recorded ≡ t .state .recorded) × (u .table .state .size ≡ t .state .size)
-
-at-head : (f : Found) (key : SceneKey) (time : ℕ) (ext : List ℕ) (t : Table) → SameHead t (upsertAt f key time ext t)
-unfolding upsertAt putAt append invalidateCurrent
-at-head (At p) key time ext t = (refl, refl)
-at-head Nothing key time ext t =
-    elim (mayAppend (t .state) (key .fabric)) as (λ b. SameHead t (cond b (written key (withEntries (append key time ext) t)) (upsertedOf insufficientSpace t))) [
-      | true ↦ (refl, refl)
-      | false ↦ (refl, refl)
-    ]
-
 module _ (key : SceneKey) (time : ℕ) (ext : List ℕ) (t : Table) (u : Upserted) (e : u ≡ upsert key time ext t) where
-  pub upserted-head : SameHead t u
-  unfolding upsert
-  upserted-head =
-      let h = at-head (findScene key t) key time ext t in
-      (ap (λ (x : Upserted). x .table .state .recorded) e ∙ h .0, ap (λ (x : Upserted). x .table .state .size) e ∙ h .1)
-
   -- f is what the search found, from which the time comes
   pub upserted-prior : (f : Found) (stored : List ℕ)
       → time ≡ priorTime f (t .slots .times)

@@ -20,7 +20,6 @@ use Rattle.slots.proofs.Laws.{Bounds, length-part}
 use Rattle.slots.proofs.View.{lengths-at, lengths-all, put-lengths, put-size, put-other}
 use Rattle.requests.specs.declared.CopyRequest.{CopyRequest}
 use Rattle.requests.specs.Requests.{wholeGroup}
-use Rattle.scenes.specs.declared.Outcome.{Outcome}
 use Rattle.scenes.specs.declared.ScenesState.{ScenesState}
 use Rattle.scenes.specs.Table.{Table, Entries, EntryRoom, CopyRoom, currentOf, withEntryCount}
 use Rattle.scenes.specs.Sound.{sound}
@@ -29,14 +28,14 @@ use Rattle.scenes.specs.Current.{invalidateCurrent}
 use Rattle.scenes.specs.Change.{putAt, append}
 use Rattle.scenes.specs.Answer.{resultOf, refused}
 use Rattle.scenes.specs.Copy.{Copied, copiedOf, copyTo, copyEntry, sourceKey, targetKey, copyFound, copySingle, sourceGroup, targetGroup, keyIn, isSource, copyWalk, copySources, targetScope, copied, copyScenesInner}
-use Rattle.scenes.proofs.Laws.{sound-fits, found-under}
+use Rattle.scenes.proofs.Laws.{sound-bounds, found-under}
 
 -- ---- room
 
 pub sound-copy-room : (t : Table) → sound t ≡ true → CopyRoom t
 unfolding sound
 sound-copy-room t e =
-    let f = sound-fits t e in
+    let f = sound-bounds t e in
     record {
       entries = record { entries = f .entries; keys = f .keys; times = f .times; fields = f .fields; lengths = all-head _ _ (all-tail _ _ (all-tail _ _ e)) };
       recorded = omega arith;
@@ -253,9 +252,3 @@ module _ (c : CopyRequest) (t : Table) where
         → resultOf success true (record { state = s; slots = o .entries .slots; records = r }) ≡ copyScenesInner c t
     unfolding copyScenesInner copied
     inner-done z q = rw (ne-eqb _ _ h, ← w, eq-eqb _ _ z) (λ d. resultOf success true (record { state = q d .state; slots = o .entries .slots; records = q d .records }))
-
--- ---- a refusal of the code is the definition's
-
-pub as-refused : {n : ℕ} {s : ScenesState} {o : Outcome} (slots : Slots) (records : List ℕ) → o ≡ record { status = n; save = false; state = s }
-    → resultOf (o .status) (o .save) (record { state = o .state; slots = slots; records = records }) ≡ refused (record { state = s; slots = slots; records = records }) n
-as-refused slots records q = ap (λ (o : Outcome). resultOf (o .status) (o .save) (record { state = o .state; slots = slots; records = records })) q

@@ -7,7 +7,6 @@ use Rattle.words.specs.Constants.{maxShown}
 use Rattle.words.specs.Words.{fabricKeys}
 use Rattle.slots.specs.Slots.{countKeys}
 use Rattle.scenes.specs.declared.ScenesState.{ScenesState}
-use Rattle.scenes.specs.Table.{Table}
 
 -- the fabric's entries, on all endpoints
 abbrev pub used : ScenesState → List ℕ → ℕ → ℕ
@@ -21,6 +20,6 @@ roomFor s keys fabric = min ((s .size - 1) / 2 - used s keys fabric) (s .size - 
 unfoldable pub remaining : ScenesState → List ℕ → ℕ → ℕ
 remaining s keys fabric = min (roomFor s keys fabric) maxShown
 
--- whether one more entry of a fabric fits. Its share is not looked at
+-- whether one more entry of a fabric inBounds. Its share is not looked at
 abbrev pub mayAppend : ScenesState → ℕ → Bool
 mayAppend s fabric = ltb (s .entries) (s .size)

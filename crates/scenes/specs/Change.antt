@@ -12,7 +12,6 @@ use Rattle.words.specs.declared.KeyRange.{KeyRange}
 use Rattle.words.specs.declared.SceneKey.{SceneKey}
 use Rattle.slots.specs.Slots.{firstKey, putSlot, copySlot, outside, gathered}
 use Rattle.records.specs.declared.Scope.the-variants.{Scene}
-use Rattle.scenes.specs.declared.ScenesState.{ScenesState}
 use Rattle.scenes.specs.Table.{Table, Entries, withEntries, withCurrent, withEntryCount}
 use Rattle.scenes.specs.Capacity.{mayAppend}
 use Rattle.scenes.specs.Current.{invalidateCurrent}

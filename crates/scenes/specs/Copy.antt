@@ -1,5 +1,5 @@
 -- What a copy answers and leaves, of one scene or of a whole group: document 01, "Commands", Copy.
-use Prim.Native.Nat.{ℕ, zero, suc, _+_}
+use Prim.Native.Nat.{ℕ, zero, suc}
 use mathlib.Core.Bool.{Bool, true, false, cond}
 use lib.Dec.{eqb}
 use lib.ListN.{getD}

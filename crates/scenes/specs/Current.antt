@@ -1,7 +1,5 @@
 -- Remembering and invalidating current records, with their steps of the data version: document 01, "Records".
-use Prim.Native.Nat.{ℕ}
 use mathlib.Core.Bool.{true}
-use mathlib.Core.List.{List}
 use Rattle.words.specs.declared.SceneKey.{SceneKey}
 use Rattle.records.specs.declared.Scope.{Scope}
 use Rattle.records.specs.Records.{Records, recordsOf, remember, anyHit, invalidated}

@@ -9,7 +9,6 @@ use Rattle.words.specs.Words.{fabricKeys}
 use Rattle.records.specs.declared.Scope.the-variants.{Endpoint}
 use Rattle.records.specs.Records.{othersOf, moved}
 use Rattle.requests.specs.Requests.{fabricGate}
-use Rattle.scenes.specs.declared.ScenesState.{ScenesState}
 use Rattle.scenes.specs.Table.{Table, withEntries, withCurrent, withEntryCount, withRecordCount, bumpIf}
 use Rattle.scenes.specs.Current.{invalidateCurrent}
 use Rattle.scenes.specs.Change.{retainOutside}

@@ -1,7 +1,7 @@
 -- When a table is sound: document 01, "Forms that change first", the list behind "Sound".
 use Prim.Native.Nat.{ℕ, _*_}
 use mathlib.Core.Bool.{Bool}
-use mathlib.Core.List.{List, [], _∷_}
+use mathlib.Core.List.{[], _∷_}
 use lib.Dec.{leb}
 use lib.ListN.{length}
 use Rattle.words.specs.Constants.{maxScenes, stride}
@@ -12,8 +12,8 @@ use Rattle.scenes.specs.declared.ScenesState.{ScenesState}
 use Rattle.scenes.specs.Table.{Table}
 
 -- N at most 1,024, the counts at most N, lent slices long enough for N: by the lengths of the slices
-unfoldable pub fits : ScenesState → ℕ → ℕ → ℕ → ℕ → Bool
-fits s keys times fields records =
+unfoldable pub inBounds : ScenesState → ℕ → ℕ → ℕ → ℕ → Bool
+inBounds s keys times fields records =
     allOf (leb (s .size) maxScenes
     ∷ leb (s .entries) (s .size)
     ∷ leb (s .recorded) (s .size)
@@ -26,7 +26,7 @@ fits s keys times fields records =
 -- and, at positions below the counts, sound key words, lengths and record words. Repeated keys and records are not looked for
 unfoldable pub sound : Table → Bool
 sound t =
-    allOf (fits (t .state) (length (t .slots .keys)) (length (t .slots .times)) (length (t .slots .fields)) (length (t .records))
+    allOf (inBounds (t .state) (length (t .slots .keys)) (length (t .slots .times)) (length (t .slots .fields)) (length (t .records))
     ∷ keysSound (t .slots .keys) (t .state .entries)
     ∷ lengthsSound (t .slots .fields) (t .state .entries)
     ∷ recordsSound (t .records) (t .state .recorded)

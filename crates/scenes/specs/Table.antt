@@ -4,7 +4,7 @@ use Prim.Native.Nat.{ℕ, _+_, _*_, _%_, _^_, _≤_}
 use mathlib.Core.Bool.{Bool, true, cond}
 use mathlib.Core.Path.{_≡_}
 use mathlib.Core.List.{List, map}
-use lib.ListN.{length, take}
+use lib.ListN.{length, take, replicate}
 use Rattle.words.specs.Constants.{stride}
 use Rattle.words.specs.Below.{positions}
 use Rattle.slots.specs.Slots.{Slots, slotsOf, SceneEntry, entryAt, lengthsSound}
@@ -55,6 +55,10 @@ recordsIn t = take (t .state .recorded) (t .records)
 -- a new head: no entries, no records, data version 0
 abbrev pub newState : ℕ → ScenesState
 newState size = record { size = size; entries = 0; recorded = 0; dataver = 0 }
+
+-- an empty table of n places, with zeros in its memory
+abbrev pub emptyTable : ℕ → Table
+emptyTable n = tableOf (newState n) (replicate n 0) (replicate n 0) (replicate (n * stride) 0) (replicate n 0)
 
 abbrev pub withEntryCount : ℕ → ScenesState → ScenesState
 withEntryCount n s = record { size = s .size; entries = n; recorded = s .recorded; dataver = s .dataver }

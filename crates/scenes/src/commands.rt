@@ -51,8 +51,8 @@ fn end_capture(scratch: &mut [u8], captured: &[u8]) -> usize
 }
 
 impl Outcome {
-    // A refusal has no save mark and hands the head back as it came.
-    pub(crate) fn refused(status: u8, state: ScenesState) -> Outcome
+    // An answer without a save mark: every refusal, and a success after which there is nothing to save.
+    pub(crate) fn unsaved(status: u8, state: ScenesState) -> Outcome
         ensures { λ r. ⌜ r ≡ record { status = status; save = false; state = state } ⌝ }
     {
         Outcome {
@@ -94,7 +94,10 @@ impl ScenesState {
         pairs: &[u8],
         ext: &[u8],
     ) -> Outcome
-        ensures { λ r. ⌜ resultOf (r .status) (r .save) (tableOf (r .state) (now (keys .exit)) (now (times .exit)) (now (fields .exit)) (now (records .exit))) ≡ addScene key time member (now (pairs .entry)) (now (ext .entry)) (tableOf self (now (keys .entry)) (now (times .entry)) (now (fields .entry)) (now (records .entry))) ⌝ }
+        ensures { λ r.
+            let before = tableOf self (now (keys .entry)) (now (times .entry)) (now (fields .entry)) (now (records .entry)) in
+            let after = tableOf (r .state) (now (keys .exit)) (now (times .exit)) (now (fields .exit)) (now (records .exit)) in
+            ⌜ resultOf (r .status) (r .save) after ≡ addScene key time member (now (pairs .entry)) (now (ext .entry)) before ⌝ }
     {
         let gate = requests::add_gate(
             key,
@@ -106,7 +109,7 @@ impl ScenesState {
         );
         let refusal = self.refusal(keys, times, fields, records, gate);
         if refusal != Status::SUCCESS {
-            return Outcome::refused(refusal, self);
+            return Outcome::unsaved(refusal, self);
         }
         let n = self.entries;
         let found = slots::find(keys, n, key.word());
@@ -124,12 +127,15 @@ impl ScenesState {
         member: Membership,
         captured: &[u8],
     ) -> Outcome
-        ensures { λ r. ⌜ resultOf (r .status) (r .save) (tableOf (r .state) (now (keys .exit)) (now (times .exit)) (now (fields .exit)) (now (records .exit))) ≡ storeScene key member (now (captured .entry)) (tableOf self (now (keys .entry)) (now (times .entry)) (now (fields .entry)) (now (records .entry))) ⌝ }
+        ensures { λ r.
+            let before = tableOf self (now (keys .entry)) (now (times .entry)) (now (fields .entry)) (now (records .entry)) in
+            let after = tableOf (r .state) (now (keys .exit)) (now (times .exit)) (now (fields .exit)) (now (records .exit)) in
+            ⌜ resultOf (r .status) (r .save) after ≡ storeScene key member (now (captured .entry)) before ⌝ }
     {
         let gate = requests::store_gate(key, member, Limits::MAX_EXT_FIELDS_LEN, captured.len());
         let refusal = self.refusal(keys, times, fields, records, gate);
         if refusal != Status::SUCCESS {
-            return Outcome::refused(refusal, self);
+            return Outcome::unsaved(refusal, self);
         }
         self.store_captured(keys, times, fields, records, key, captured)
     }
@@ -146,7 +152,10 @@ impl ScenesState {
     ) -> Outcome
         requires { ⌜ Room (tableOf self (now keys) (now times) (now fields) (now records)) ⌝ }
         requires { ⌜ length (now captured) < maxFields ⌝ }
-        ensures { λ r. ⌜ resultOf (r .status) (r .save) (tableOf (r .state) (now (keys .exit)) (now (times .exit)) (now (fields .exit)) (now (records .exit))) ≡ storeCaptured key (now (captured .entry)) (tableOf self (now (keys .entry)) (now (times .entry)) (now (fields .entry)) (now (records .entry))) ⌝ }
+        ensures { λ r.
+            let before = tableOf self (now (keys .entry)) (now (times .entry)) (now (fields .entry)) (now (records .entry)) in
+            let after = tableOf (r .state) (now (keys .exit)) (now (times .exit)) (now (fields .exit)) (now (records .exit)) in
+            ⌜ resultOf (r .status) (r .save) after ≡ storeCaptured key (now (captured .entry)) before ⌝ }
     {
         let mut scratch = [0u8; Limits::MAX_EXT_FIELDS_LEN];
         let len = end_capture(&mut scratch, captured);
@@ -166,7 +175,7 @@ impl ScenesState {
         let status = done.status;
         let state = done.state;
         if status != Status::SUCCESS {
-            return Outcome::refused(status, state);
+            return Outcome::unsaved(status, state);
         }
         Outcome {
             status: Status::SUCCESS,
@@ -185,16 +194,19 @@ impl ScenesState {
         key: SceneKey,
         member: Membership,
     ) -> Outcome
-        ensures { λ r. ⌜ resultOf (r .status) (r .save) (tableOf (r .state) (now (keys .exit)) (now (times .exit)) (now (fields .exit)) (now (records .exit))) ≡ removeScene key member (tableOf self (now (keys .entry)) (now (times .entry)) (now (fields .entry)) (now (records .entry))) ⌝ }
+        ensures { λ r.
+            let before = tableOf self (now (keys .entry)) (now (times .entry)) (now (fields .entry)) (now (records .entry)) in
+            let after = tableOf (r .state) (now (keys .exit)) (now (times .exit)) (now (fields .exit)) (now (records .exit)) in
+            ⌜ resultOf (r .status) (r .save) after ≡ removeScene key member before ⌝ }
     {
         let gate = requests::lookup_gate(key, member);
         let refusal = self.refusal(keys, times, fields, records, gate);
         if refusal != Status::SUCCESS {
-            return Outcome::refused(refusal, self);
+            return Outcome::unsaved(refusal, self);
         }
         let n = self.entries;
         let Found::At(at) = slots::find(keys, n, key.word()) else {
-            return Outcome::refused(Status::SC_NOT_FOUND, self);
+            return Outcome::unsaved(Status::SC_NOT_FOUND, self);
         };
         let shorter = self.swap_remove(keys, times, fields, at);
         Outcome {
@@ -214,21 +226,20 @@ impl ScenesState {
         key: GroupKey,
         member: Membership,
     ) -> Outcome
-        ensures { λ r. ⌜ resultOf (r .status) (r .save) (tableOf (r .state) (now (keys .exit)) (now (times .exit)) (now (fields .exit)) (now (records .exit))) ≡ removeAllScenes key member (tableOf self (now (keys .entry)) (now (times .entry)) (now (fields .entry)) (now (records .entry))) ⌝ }
+        ensures { λ r.
+            let before = tableOf self (now (keys .entry)) (now (times .entry)) (now (fields .entry)) (now (records .entry)) in
+            let after = tableOf (r .state) (now (keys .exit)) (now (times .exit)) (now (fields .exit)) (now (records .exit)) in
+            ⌜ resultOf (r .status) (r .save) after ≡ removeAllScenes key member before ⌝ }
     {
         let gate = requests::group_gate(key, member);
         let refusal = self.refusal(keys, times, fields, records, gate);
         if refusal != Status::SUCCESS {
-            return Outcome::refused(refusal, self);
+            return Outcome::unsaved(refusal, self);
         }
         let before = self.entries;
         let left = self.retain(keys, times, fields, KeyRange::Group(key));
         if left.entries == before {
-            return Outcome {
-                status: Status::SUCCESS,
-                save: false,
-                state: left,
-            };
+            return Outcome::unsaved(Status::SUCCESS, left);
         }
         Outcome {
             status: Status::SUCCESS,
@@ -248,16 +259,19 @@ impl ScenesState {
         member: Membership,
         applied: Applied,
     ) -> Outcome
-        ensures { λ r. ⌜ resultOf (r .status) (r .save) (tableOf (r .state) (now (keys .entry)) (now (times .entry)) (now (fields .entry)) (now (records .exit))) ≡ recallScene key member applied (tableOf self (now (keys .entry)) (now (times .entry)) (now (fields .entry)) (now (records .entry))) ⌝ }
+        ensures { λ r.
+            let before = tableOf self (now (keys .entry)) (now (times .entry)) (now (fields .entry)) (now (records .entry)) in
+            let after = tableOf (r .state) (now (keys .entry)) (now (times .entry)) (now (fields .entry)) (now (records .exit)) in
+            ⌜ resultOf (r .status) (r .save) after ≡ recallScene key member applied before ⌝ }
     {
         let gate = requests::lookup_gate(key, member);
         let refusal = self.refusal(keys, times, fields, records, gate);
         if refusal != Status::SUCCESS {
-            return Outcome::refused(refusal, self);
+            return Outcome::unsaved(refusal, self);
         }
         let n = self.entries;
         let Found::At(_) = slots::find(keys, n, key.word()) else {
-            return Outcome::refused(Status::SC_NOT_FOUND, self);
+            return Outcome::unsaved(Status::SC_NOT_FOUND, self);
         };
         match applied {
             Applied::Yes => Outcome {
@@ -265,7 +279,7 @@ impl ScenesState {
                 save: true,
                 state: self.remember_current(records, key),
             },
-            Applied::Failed => Outcome::refused(Fault::APPLY_FAILED, self),
+            Applied::Failed => Outcome::unsaved(Fault::APPLY_FAILED, self),
         }
     }
 }

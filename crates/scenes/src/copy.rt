@@ -34,7 +34,10 @@ impl ScenesState {
     ) -> Copied
         requires { ⌜ EntryRoom (entriesOf self (now keys) (now times) (now fields)) ⌝ }
         requires { ⌜ at < self .entries ⌝ }
-        ensures { λ r. ⌜ copiedOf (r .status) (entriesOf (r .state) (now (keys .exit)) (now (times .exit)) (now (fields .exit))) ≡ copyEntry at key (entriesOf self (now (keys .entry)) (now (times .entry)) (now (fields .entry))) ⌝ }
+        ensures { λ r.
+            let before = entriesOf self (now (keys .entry)) (now (times .entry)) (now (fields .entry)) in
+            let after = entriesOf (r .state) (now (keys .exit)) (now (times .exit)) (now (fields .exit)) in
+            ⌜ copiedOf (r .status) after ≡ copyEntry at key before ⌝ }
     {
         let n = self.entries;
         let word = key.word();
@@ -69,7 +72,10 @@ impl ScenesState {
         to: GroupKey,
     ) -> Copied
         requires { ⌜ EntryRoom (entriesOf self (now keys) (now times) (now fields)) ⌝ }
-        ensures { λ r. ⌜ copiedOf (r .status) (entriesOf (r .state) (now (keys .exit)) (now (times .exit)) (now (fields .exit))) ≡ copyWalk from to (self .entries) 0 notFound (entriesOf self (now (keys .entry)) (now (times .entry)) (now (fields .entry))) ⌝ }
+        ensures { λ r.
+            let before = entriesOf self (now (keys .entry)) (now (times .entry)) (now (fields .entry)) in
+            let after = entriesOf (r .state) (now (keys .exit)) (now (times .exit)) (now (fields .exit)) in
+            ⌜ copiedOf (r .status) after ≡ copyWalk from to (self .entries) 0 notFound before ⌝ }
     {
         let n = self.entries;
         let range = KeyRange::Group(from);
@@ -109,7 +115,10 @@ impl ScenesState {
         to: SceneKey,
     ) -> Copied
         requires { ⌜ EntryRoom (entriesOf self (now keys) (now times) (now fields)) ⌝ }
-        ensures { λ r. ⌜ copiedOf (r .status) (entriesOf (r .state) (now (keys .exit)) (now (times .exit)) (now (fields .exit))) ≡ copySingle from to (entriesOf self (now (keys .entry)) (now (times .entry)) (now (fields .entry))) ⌝ }
+        ensures { λ r.
+            let before = entriesOf self (now (keys .entry)) (now (times .entry)) (now (fields .entry)) in
+            let after = entriesOf (r .state) (now (keys .exit)) (now (times .exit)) (now (fields .exit)) in
+            ⌜ copiedOf (r .status) after ≡ copySingle from to before ⌝ }
     {
         let n = self.entries;
         let Found::At(at) = slots::find(keys, n, from.word()) else {
@@ -130,7 +139,10 @@ impl ScenesState {
         c: CopyRequest,
     ) -> Copied
         requires { ⌜ EntryRoom (entriesOf self (now keys) (now times) (now fields)) ⌝ }
-        ensures { λ r. ⌜ copiedOf (r .status) (entriesOf (r .state) (now (keys .exit)) (now (times .exit)) (now (fields .exit))) ≡ copySources c (entriesOf self (now (keys .entry)) (now (times .entry)) (now (fields .entry))) ⌝ }
+        ensures { λ r.
+            let before = entriesOf self (now (keys .entry)) (now (times .entry)) (now (fields .entry)) in
+            let after = entriesOf (r .state) (now (keys .exit)) (now (times .exit)) (now (fields .exit)) in
+            ⌜ copiedOf (r .status) after ≡ copySources c before ⌝ }
     {
         if requests::is_whole_group(c.mode) {
             return self.copy_group(keys, times, fields, source_group(c), target_group(c));
@@ -148,16 +160,19 @@ impl ScenesState {
         c: CopyRequest,
     ) -> Outcome
         requires { ⌜ CopyRoom (tableOf self (now keys) (now times) (now fields) (now records)) ⌝ }
-        ensures { λ r. ⌜ resultOf (r .status) (r .save) (tableOf (r .state) (now (keys .exit)) (now (times .exit)) (now (fields .exit)) (now (records .exit))) ≡ copyScenesInner c (tableOf self (now (keys .entry)) (now (times .entry)) (now (fields .entry)) (now (records .entry))) ⌝ }
+        ensures { λ r.
+            let before = tableOf self (now (keys .entry)) (now (times .entry)) (now (fields .entry)) (now (records .entry)) in
+            let after = tableOf (r .state) (now (keys .exit)) (now (times .exit)) (now (fields .exit)) (now (records .exit)) in
+            ⌜ resultOf (r .status) (r .save) after ≡ copyScenesInner c before ⌝ }
     {
         if self.room_for_fab(keys, c.fabric) == 0 {
-            return Outcome::refused(Status::SC_INSUFFICIENT_SPACE, self);
+            return Outcome::unsaved(Status::SC_INSUFFICIENT_SPACE, self);
         }
         let done = self.copy_sources(keys, times, fields, c);
         let status = done.status;
         let state = done.state;
         if status != Status::SUCCESS {
-            return Outcome::refused(status, state);
+            return Outcome::unsaved(status, state);
         }
         Outcome {
             status: Status::SUCCESS,
@@ -173,18 +188,21 @@ impl ScenesState {
         times: &mut [u32],
         fields: &mut [u8],
         records: &mut [u64],
-        c: CopyRequest,
+        request: CopyRequest,
         source: Membership,
         target: Membership,
     ) -> Outcome
-        ensures { λ r. ⌜ resultOf (r .status) (r .save) (tableOf (r .state) (now (keys .exit)) (now (times .exit)) (now (fields .exit)) (now (records .exit))) ≡ copyScene c source target (tableOf self (now (keys .entry)) (now (times .entry)) (now (fields .entry)) (now (records .entry))) ⌝ }
+        ensures { λ r.
+            let before = tableOf self (now (keys .entry)) (now (times .entry)) (now (fields .entry)) (now (records .entry)) in
+            let after = tableOf (r .state) (now (keys .exit)) (now (times .exit)) (now (fields .exit)) (now (records .exit)) in
+            ⌜ resultOf (r .status) (r .save) after ≡ copyScene request source target before ⌝ }
     {
-        let gate = requests::copy_gate(c, source, target);
+        let gate = requests::copy_gate(request, source, target);
         let refusal = self.refusal(keys, times, fields, records, gate);
         if refusal != Status::SUCCESS {
-            return Outcome::refused(refusal, self);
+            return Outcome::unsaved(refusal, self);
         }
-        self.copy_scenes_inner(keys, times, fields, records, c)
+        self.copy_scenes_inner(keys, times, fields, records, request)
     }
 }
 

@@ -11,7 +11,7 @@ ghost use Rattle.scenes.specs.Current.{rememberCurrent, invalidateCurren
 
 impl ScenesState {
     // One step of the data version, which wraps.
-    pub(crate) fn bump_info_dataver(mut self) -> ScenesState
+    pub fn bump_info_dataver(mut self) -> ScenesState
         ensures { λ r. ⌜ r ≡ bumpIf true self ⌝ }
     {
         self.dataver = std::num::wrapping_add_u32(self.dataver, 1);

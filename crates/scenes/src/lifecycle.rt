@@ -5,7 +5,7 @@ use records::Scope;
 use words::KeyRange;
 use words::Status;
 ghost use mathlib.Core.Path.{_≡_};
-ghost use Rattle.scenes.specs.Table.{tableOf};
+ghost use Rattle.scenes.specs.Table.{tableOf, withEntryCount, withRecordCount};
 ghost use Rattle.scenes.specs.Answer.{resultOf};
 ghost use Rattle.scenes.specs.Lifecycle.{scenableAttributeChanged, removeForFabric, factoryReset, startup, failSafe};
 
@@ -19,17 +19,19 @@ impl ScenesState {
         records: &mut [u64],
         endpoint: u16,
     ) -> Outcome
-        ensures { λ r. ⌜ resultOf (r .status) (r .save) (tableOf (r .state) (now (keys .entry)) (now (times .entry)) (now (fields .entry)) (now (records .exit))) ≡ scenableAttributeChanged endpoint (tableOf self (now (keys .entry)) (now (times .entry)) (now (fields .entry)) (now (records .entry))) ⌝ }
+        ensures { λ r.
+            let before = tableOf self (now (keys .entry)) (now (times .entry)) (now (fields .entry)) (now (records .entry)) in
+            let after = tableOf (r .state) (now (keys .entry)) (now (times .entry)) (now (fields .entry)) (now (records .exit)) in
+            ⌜ resultOf (r .status) (r .save) after ≡ scenableAttributeChanged endpoint before ⌝ }
     {
         let refusal = self.refusal(keys, times, fields, records, Status::SUCCESS);
         if refusal != Status::SUCCESS {
-            return Outcome::refused(refusal, self);
+            return Outcome::unsaved(refusal, self);
         }
-        Outcome {
-            status: Status::SUCCESS,
-            save: false,
-            state: self.invalidate_current(records, Scope::Endpoint(endpoint)),
-        }
+        Outcome::unsaved(
+            Status::SUCCESS,
+            self.invalidate_current(records, Scope::Endpoint(endpoint)),
+        )
     }
 
     // A fabric left: its entries and its records go.
@@ -41,12 +43,15 @@ impl ScenesState {
         records: &mut [u64],
         fabric: u8,
     ) -> Outcome
-        ensures { λ r. ⌜ resultOf (r .status) (r .save) (tableOf (r .state) (now (keys .exit)) (now (times .exit)) (now (fields .exit)) (now (records .exit))) ≡ removeForFabric fabric (tableOf self (now (keys .entry)) (now (times .entry)) (now (fields .entry)) (now (records .entry))) ⌝ }
+        ensures { λ r.
+            let before = tableOf self (now (keys .entry)) (now (times .entry)) (now (fields .entry)) (now (records .entry)) in
+            let after = tableOf (r .state) (now (keys .exit)) (now (times .exit)) (now (fields .exit)) (now (records .exit)) in
+            ⌜ resultOf (r .status) (r .save) after ≡ removeForFabric fabric before ⌝ }
     {
         let gate = requests::fabric_gate(fabric);
         let refusal = self.refusal(keys, times, fields, records, gate);
         if refusal != Status::SUCCESS {
-            return Outcome::refused(refusal, self);
+            return Outcome::unsaved(refusal, self);
         }
         let entries = self.entries;
         let recorded = self.recorded;
@@ -60,51 +65,50 @@ impl ScenesState {
                 state: state.bump_info_dataver(),
             };
         }
-        Outcome {
-            status: Status::SUCCESS,
-            save: false,
-            state,
-        }
+        Outcome::unsaved(Status::SUCCESS, state)
+    }
+
+    // The head without entries and records, at the data version that it had.
+    fn emptied(mut self) -> ScenesState
+        ensures { λ r. ⌜ r ≡ withRecordCount 0 (withEntryCount 0 self) ⌝ }
+    {
+        self.entries = 0;
+        self.recorded = 0;
+        self
     }
 
     // A factory reset: an empty table, and a step of the data version. The host drops its image.
     pub fn factory_reset(
-        mut self,
+        self,
         keys: &[u64],
         times: &[u32],
         fields: &[u8],
         records: &[u64],
     ) -> Outcome
-        ensures { λ r. ⌜ resultOf (r .status) (r .save) (tableOf (r .state) (now (keys .entry)) (now (times .entry)) (now (fields .entry)) (now (records .entry))) ≡ factoryReset (tableOf self (now (keys .entry)) (now (times .entry)) (now (fields .entry)) (now (records .entry))) ⌝ }
+        ensures { λ r.
+            let before = tableOf self (now (keys .entry)) (now (times .entry)) (now (fields .entry)) (now (records .entry)) in
+            let after = tableOf (r .state) (now (keys .entry)) (now (times .entry)) (now (fields .entry)) (now (records .entry)) in
+            ⌜ resultOf (r .status) (r .save) after ≡ factoryReset before ⌝ }
     {
         let refusal = self.refusal(keys, times, fields, records, Status::SUCCESS);
         if refusal != Status::SUCCESS {
-            return Outcome::refused(refusal, self);
+            return Outcome::unsaved(refusal, self);
         }
-        self.entries = 0;
-        self.recorded = 0;
-        Outcome {
-            status: Status::SUCCESS,
-            save: false,
-            state: self.bump_info_dataver(),
-        }
+        Outcome::unsaved(Status::SUCCESS, self.emptied().bump_info_dataver())
     }
 
     // A startup without a saved table: an empty table at the data version that it had.
-    pub fn startup(mut self, keys: &[u64], times: &[u32], fields: &[u8], records: &[u64]) -> Outcome
-        ensures { λ r. ⌜ resultOf (r .status) (r .save) (tableOf (r .state) (now (keys .entry)) (now (times .entry)) (now (fields .entry)) (now (records .entry))) ≡ startup (tableOf self (now (keys .entry)) (now (times .entry)) (now (fields .entry)) (now (records .entry))) ⌝ }
+    pub fn startup(self, keys: &[u64], times: &[u32], fields: &[u8], records: &[u64]) -> Outcome
+        ensures { λ r.
+            let before = tableOf self (now (keys .entry)) (now (times .entry)) (now (fields .entry)) (now (records .entry)) in
+            let after = tableOf (r .state) (now (keys .entry)) (now (times .entry)) (now (fields .entry)) (now (records .entry)) in
+            ⌜ resultOf (r .status) (r .save) after ≡ startup before ⌝ }
     {
         let refusal = self.refusal(keys, times, fields, records, Status::SUCCESS);
         if refusal != Status::SUCCESS {
-            return Outcome::refused(refusal, self);
+            return Outcome::unsaved(refusal, self);
         }
-        self.entries = 0;
-        self.recorded = 0;
-        Outcome {
-            status: Status::SUCCESS,
-            save: false,
-            state: self,
-        }
+        Outcome::unsaved(Status::SUCCESS, self.emptied())
     }
 
     // The fail-safe was committed: nothing changes.
@@ -115,10 +119,13 @@ impl ScenesState {
         fields: &[u8],
         records: &[u64],
     ) -> Outcome
-        ensures { λ r. ⌜ resultOf (r .status) (r .save) (tableOf (r .state) (now (keys .entry)) (now (times .entry)) (now (fields .entry)) (now (records .entry))) ≡ failSafe (tableOf self (now (keys .entry)) (now (times .entry)) (now (fields .entry)) (now (records .entry))) ⌝ }
+        ensures { λ r.
+            let before = tableOf self (now (keys .entry)) (now (times .entry)) (now (fields .entry)) (now (records .entry)) in
+            let after = tableOf (r .state) (now (keys .entry)) (now (times .entry)) (now (fields .entry)) (now (records .entry)) in
+            ⌜ resultOf (r .status) (r .save) after ≡ failSafe before ⌝ }
     {
         let refusal = self.refusal(keys, times, fields, records, Status::SUCCESS);
-        Outcome::refused(refusal, self)
+        Outcome::unsaved(refusal, self)
     }
 
     // The fail-safe expired: nothing changes.
@@ -129,9 +136,12 @@ impl ScenesState {
         fields: &[u8],
         records: &[u64],
     ) -> Outcome
-        ensures { λ r. ⌜ resultOf (r .status) (r .save) (tableOf (r .state) (now (keys .entry)) (now (times .entry)) (now (fields .entry)) (now (records .entry))) ≡ failSafe (tableOf self (now (keys .entry)) (now (times .entry)) (now (fields .entry)) (now (records .entry))) ⌝ }
+        ensures { λ r.
+            let before = tableOf self (now (keys .entry)) (now (times .entry)) (now (fields .entry)) (now (records .entry)) in
+            let after = tableOf (r .state) (now (keys .entry)) (now (times .entry)) (now (fields .entry)) (now (records .entry)) in
+            ⌜ resultOf (r .status) (r .save) after ≡ failSafe before ⌝ }
     {
         let refusal = self.refusal(keys, times, fields, records, Status::SUCCESS);
-        Outcome::refused(refusal, self)
+        Outcome::unsaved(refusal, self)
     }
 }

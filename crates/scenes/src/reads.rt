@@ -49,7 +49,17 @@ impl ListRead {
 impl InfoRead {
     // No row: a refusal, or a fabric that the table does not know.
     fn absent(status: u8, state: ScenesState) -> InfoRead
-        ensures { λ r. ⌜ r ≡ record { status = status; present = false; count = 0; group = 0; scene = 0; valid = false; remaining = 0; fabric = 0; state = state } ⌝ }
+        ensures { λ r. ⌜ r ≡ record {
+          status = status;
+          present = false;
+          count = 0;
+          group = 0;
+          scene = 0;
+          valid = false;
+          remaining = 0;
+          fabric = 0;
+          state = state;
+        } ⌝ }
     {
         InfoRead {
             status,
@@ -74,7 +84,17 @@ impl InfoRead {
         fabric: u8,
         state: ScenesState,
     ) -> InfoRead
-        ensures { λ r. ⌜ r ≡ record { status = success; present = true; count = min count maxShown; group = group; scene = scene; valid = valid; remaining = remaining; fabric = fabric; state = state } ⌝ }
+        ensures { λ r. ⌜ r ≡ record {
+          status = success;
+          present = true;
+          count = min count maxShown;
+          group = group;
+          scene = scene;
+          valid = valid;
+          remaining = remaining;
+          fabric = fabric;
+          state = state;
+        } ⌝ }
     {
         let count = shown(count);
         InfoRead {
@@ -112,7 +132,9 @@ impl ScenesState {
         key: SceneKey,
         member: Membership,
     ) -> SceneRead
-        ensures { λ r. ⌜ r ≡ viewScene key member (tableOf self (now (keys .entry)) (now (times .entry)) (now (fields .entry)) (now (records .entry))) ⌝ }
+        ensures { λ r.
+            let table = tableOf self (now (keys .entry)) (now (times .entry)) (now (fields .entry)) (now (records .entry)) in
+            ⌜ r ≡ viewScene key member table ⌝ }
     {
         let gate = requests::lookup_gate(key, member);
         let refusal = self.refusal(keys, times, fields, records, gate);
@@ -143,7 +165,9 @@ impl ScenesState {
         member: Membership,
         transition: Transition,
     ) -> SceneRead
-        ensures { λ r. ⌜ r ≡ recallLookup key member transition (tableOf self (now (keys .entry)) (now (times .entry)) (now (fields .entry)) (now (records .entry))) ⌝ }
+        ensures { λ r.
+            let table = tableOf self (now (keys .entry)) (now (times .entry)) (now (fields .entry)) (now (records .entry)) in
+            ⌜ r ≡ recallLookup key member transition table ⌝ }
     {
         let gate = requests::lookup_gate(key, member);
         let refusal = self.refusal(keys, times, fields, records, gate);
@@ -172,7 +196,9 @@ impl ScenesState {
         records: &[u64],
         at: usize,
     ) -> &'a [u8]
-        ensures { λ r. ⌜ now r ≡ fieldBytes at (tableOf self (now (keys .entry)) (now (times .entry)) (now (fields .entry)) (now (records .entry))) ⌝ }
+        ensures { λ r.
+            let table = tableOf self (now (keys .entry)) (now (times .entry)) (now (fields .entry)) (now (records .entry)) in
+            ⌜ now r ≡ fieldBytes at table ⌝ }
     {
         let n = self.entries;
         if self.is_sound(keys, times, fields, records) {
@@ -195,7 +221,9 @@ impl ScenesState {
         key: GroupKey,
         member: Membership,
     ) -> ListRead
-        ensures { λ r. ⌜ listedOf r (now (ids .exit)) ≡ getSceneMembership key member (now (ids .entry)) (tableOf self (now (keys .entry)) (now (times .entry)) (now (fields .entry)) (now (records .entry))) ⌝ }
+        ensures { λ r.
+            let table = tableOf self (now (keys .entry)) (now (times .entry)) (now (fields .entry)) (now (records .entry)) in
+            ⌜ listedOf r (now (ids .exit)) ≡ getSceneMembership key member (now (ids .entry)) table ⌝ }
     {
         let gate = requests::group_gate(key, member);
         let refusal = self.refusal(keys, times, fields, records, gate);
@@ -227,7 +255,9 @@ impl ScenesState {
         endpoint: u16,
         single: bool,
     ) -> InfoRead
-        ensures { λ r. ⌜ r ≡ readFabricSceneInfo fabric endpoint single (tableOf self (now (keys .entry)) (now (times .entry)) (now (fields .entry)) (now (records .entry))) ⌝ }
+        ensures { λ r.
+            let table = tableOf self (now (keys .entry)) (now (times .entry)) (now (fields .entry)) (now (records .entry)) in
+            ⌜ r ≡ readFabricSceneInfo fabric endpoint single table ⌝ }
     {
         let gate = requests::info_gate(fabric, single);
         let refusal = self.refusal(keys, times, fields, records, gate);

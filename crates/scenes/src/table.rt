@@ -8,14 +8,15 @@ use words::Limits;
 use words::SceneKey;
 use words::Slot;
 use words::Status;
+use words::least;
 ghost use mathlib.Core.Path.{_≡_};
-ghost use Prim.Native.Nat.{_*_, _-_, _<_, _≤_, min};
+ghost use Prim.Native.Nat.{_*_, _-_, _<_, _≤_};
 ghost use lib.ListN.{length};
 ghost use Rattle.words.specs.Constants.{stride, maxFields};
 ghost use Rattle.words.specs.Words.{wordOf};
 ghost use Rattle.slots.specs.Slots.{firstKey};
 ghost use Rattle.scenes.specs.Table.{tableOf, entriesOf, Room};
-ghost use Rattle.scenes.specs.Sound.{fits, sound};
+ghost use Rattle.scenes.specs.Sound.{inBounds, sound};
 ghost use Rattle.scenes.specs.Capacity.{roomFor, remaining, mayAppend};
 ghost use Rattle.scenes.specs.Answer.{resultOf};
 ghost use Rattle.scenes.specs.Change.{upsert, swapRemove, retainOutside};
@@ -28,16 +29,10 @@ fn saturating_sub(a: usize, b: usize) -> usize
     if b < a { a - b } else { 0 }
 }
 
-fn least(a: usize, b: usize) -> usize
-    ensures { λ r. ⌜ r ≡ min a b ⌝ }
-{
-    if b < a { b } else { a }
-}
-
 impl ScenesState {
     // Whether the counts are within the size, and the size within slices of these lengths.
-    fn fits(self, keys: usize, times: usize, fields: usize, records: usize) -> bool
-        ensures { λ r. ⌜ r ≡ fits self keys times fields records ⌝ }
+    fn in_bounds(self, keys: usize, times: usize, fields: usize, records: usize) -> bool
+        ensures { λ r. ⌜ r ≡ inBounds self keys times fields records ⌝ }
     {
         let size = self.size;
         let entries = self.entries;
@@ -72,7 +67,7 @@ impl ScenesState {
     {
         let entries = self.entries;
         let recorded = self.recorded;
-        if self.fits(keys.len(), times.len(), fields.len(), records.len()) {
+        if self.in_bounds(keys.len(), times.len(), fields.len(), records.len()) {
             if slots::entries_sound(keys, fields, entries) {
                 return records::records_sound(records, recorded);
             }
@@ -126,7 +121,10 @@ impl ScenesState {
         requires { ⌜ Room (tableOf self (now keys) (now times) (now fields) (now records)) ⌝ }
         requires { ⌜ found ≡ firstKey (now keys) (self .entries) (wordOf key) ⌝ }
         requires { ⌜ length (now ext) ≤ maxFields ⌝ }
-        ensures { λ r. ⌜ resultOf (r .status) (r .save) (tableOf (r .state) (now (keys .exit)) (now (times .exit)) (now (fields .exit)) (now (records .exit))) ≡ saved (upsert key time (now (ext .entry)) (tableOf self (now (keys .entry)) (now (times .entry)) (now (fields .entry)) (now (records .entry)))) ⌝ }
+        ensures { λ r.
+            let before = tableOf self (now (keys .entry)) (now (times .entry)) (now (fields .entry)) (now (records .entry)) in
+            let after = tableOf (r .state) (now (keys .exit)) (now (times .exit)) (now (fields .exit)) (now (records .exit)) in
+            ⌜ resultOf (r .status) (r .save) after ≡ saved (upsert key time (now (ext .entry)) before) ⌝ }
     {
         let word = key.word();
         let Found::At(at) = found else {
@@ -140,7 +138,7 @@ impl ScenesState {
                     state: self.invalidate_current(records, Scope::Scene(key)),
                 };
             }
-            return Outcome::refused(Status::SC_INSUFFICIENT_SPACE, self);
+            return Outcome::unsaved(Status::SC_INSUFFICIENT_SPACE, self);
         };
         slots::put(keys, times, fields, at, word, time, ext);
         Outcome {
@@ -162,7 +160,10 @@ impl ScenesState {
         requires { ⌜ self .entries ≤ length (now keys) ⌝ }
         requires { ⌜ self .entries ≤ length (now times) ⌝ }
         requires { ⌜ self .entries * stride ≤ length (now fields) ⌝ }
-        ensures { λ r. ⌜ entriesOf r (now (keys .exit)) (now (times .exit)) (now (fields .exit)) ≡ swapRemove at (entriesOf self (now (keys .entry)) (now (times .entry)) (now (fields .entry))) ⌝ }
+        ensures { λ r.
+            let before = entriesOf self (now (keys .entry)) (now (times .entry)) (now (fields .entry)) in
+            let after = entriesOf r (now (keys .exit)) (now (times .exit)) (now (fields .exit)) in
+            ⌜ after ≡ swapRemove at before ⌝ }
     {
         let last = self.entries - 1;
         slots::copy_slot(keys, times, fields, last, at);
@@ -181,7 +182,10 @@ impl ScenesState {
         requires { ⌜ self .entries ≤ length (now keys) ⌝ }
         requires { ⌜ self .entries ≤ length (now times) ⌝ }
         requires { ⌜ self .entries * stride ≤ length (now fields) ⌝ }
-        ensures { λ r. ⌜ entriesOf r (now (keys .exit)) (now (times .exit)) (now (fields .exit)) ≡ retainOutside range (entriesOf self (now (keys .entry)) (now (times .entry)) (now (fields .entry))) ⌝ }
+        ensures { λ r.
+            let before = entriesOf self (now (keys .entry)) (now (times .entry)) (now (fields .entry)) in
+            let after = entriesOf r (now (keys .exit)) (now (times .exit)) (now (fields .exit)) in
+            ⌜ after ≡ retainOutside range before ⌝ }
     {
         let entries = self.entries;
         let left = slots::retain(keys, times, fields, entries, range);

@@ -1,15 +1,14 @@
 -- `ScenesState::add_scene` meets its contract. Assumes nothing.
-use mathlib.Core.Path.{_≡_, _∙_}
+use mathlib.Core.Path.{_∙_}
 use native.Mathlib.Omega.{arith}
 use lib.ListN.{length}
-use Rattle.words.specs.Constants.{success, maxFields}
+use Rattle.words.specs.Constants.{maxFields}
 use Rattle.requests.specs.Requests.{addGate}
 use Rattle.requests.proofs.Passed.{add-passed}
-use Rattle.scenes.specs.Table.{Table, tableOf, Room}
-use Rattle.scenes.specs.Answer.{refusalOf}
+use Rattle.scenes.specs.Table.{Table, tableOf}
 use Rattle.scenes.specs.Commands.{addScene}
-use Rattle.scenes.proofs.Guard.{when-passed, passed-gate}
-use Rattle.scenes.proofs.CommandLaws.{passes, passed-room, refuses-outcome, found-scene}
+use Rattle.scenes.proofs.Guard.{Admitted, admits, refuses-outcome}
+use Rattle.scenes.proofs.CommandLaws.{found-scene}
 use borrow.Author.Needs.{needs}
 use Rattle.scenes.proofs.ScenesState.add_scene.Statement.{statement}
 use Rattle.scenes.proofs.ScenesState.add_scene.Tie as tie
@@ -21,12 +20,8 @@ start c = c .before .before .before .before .before .before .before .before .bef
 abbrev came : tie.After-refusal → Table
 came c = let a = start c .args in tableOf (a .self) (a .keys .now) (a .times .now) (a .fields .now) (a .records .now)
 
-passed : (c : tie.Else1)
-    → (let a = start (c .before) .args in refusalOf (came (c .before)) (addGate (a .key) (a .time) (a .member) (a .pairs .now) maxFields (length (a .ext .now)))) ≡ success
-passed c = passes _ _ _ _ (c .before .before .before .before .before .before .add-gate .ensures) (c .before .refusal .ensures) (c .if1 .left)
-
-room : (c : tie.Else1) → Room (came (c .before))
-room c = passed-room _ _ (passed c)
+admitted : (c : tie.Else1) → (let a = start (c .before) .args in Admitted (came (c .before)) (addGate (a .key) (a .time) (a .member) (a .pairs .now) maxFields (length (a .ext .now))))
+admitted c = admits _ _ _ _ (c .before .before .before .before .before .before .add-gate .ensures) (c .before .refusal .ensures) (c .if1 .left)
 
 add-gate-requires : tie.Need-add-gate-requires
 add-gate-requires c κs = search needs
@@ -34,8 +29,8 @@ add-gate-requires c κs = search needs
 refusal-requires : tie.Need-refusal-requires
 refusal-requires c κs = search needs
 
-refused-requires : tie.Need-refused-requires
-refused-requires c κs = search needs
+unsaved-requires : tie.Need-unsaved-requires
+unsaved-requires c κs = search needs
 
 same-length : tie.Need-same-length
 same-length c = search needs
@@ -51,18 +46,18 @@ same-length-4 c = search needs
 
 returns : tie.Need-returns
 unfolding addScene
-returns c = refuses-outcome (came (c .before .before)) _ _ _ (c .before .before .before .before .before .before .before .add-gate .ensures) (c .before .before .refusal .ensures) _ _ (c .refused .ensures) (c .before .if1 .taken)
+returns c = refuses-outcome (came (c .before .before)) _ _ _ (c .before .before .before .before .before .before .before .add-gate .ensures) (c .before .before .refusal .ensures) _ _ (c .unsaved .ensures) (c .before .if1 .taken)
 
 word-requires : tie.Need-word-requires
 word-requires c κs = search needs
 
 find-requires : tie.Need-find-requires
-find-requires c κs = let h = room (c .before .before) in omega arith
+find-requires c κs = let h = admitted (c .before .before) .room in omega arith
 
 upsert-scene-requires : tie.Need-upsert-scene-requires
 upsert-scene-requires c κs =
     let p = c .before .before .before .before .before .before .before in
-    (room p, (found-scene _ (came (p .before)) _ _ (c .before .before .before .before .before .word .ensures) (c .before .before .before .before .find .ensures), add-passed _ _ _ _ _ _ (passed-gate _ _ (passed p)) .1))
+    (admitted p .room, (found-scene _ (came (p .before)) _ _ (c .before .before .before .before .before .word .ensures) (c .before .before .before .before .find .ensures), add-passed _ _ _ _ _ _ (admitted p .asked) .1))
 
 same-length-5 : tie.Need-same-length-5
 same-length-5 c = search needs
@@ -78,7 +73,7 @@ same-length-8 c = search needs
 
 returns-2 : tie.Need-returns-2
 unfolding addScene
-returns-2 c = c .before .before .before .before .before .before .before .before .upsert-scene .ensures ∙ when-passed _ _ _ (passed (c .before .before .before .before .before .before .before .before .before .before .before .before .before .before .before .before))
+returns-2 c = c .before .before .before .before .before .before .before .before .upsert-scene .ensures ∙ admitted (c .before .before .before .before .before .before .before .before .before .before .before .before .before .before .before .before) .answers _ _
 
 pub add-scene-spec : {M : Type 1} → statement M
 add-scene-spec =
@@ -86,7 +81,7 @@ add-scene-spec =
     (tie.spec
     add-gate-requires
     refusal-requires
-    refused-requires
+    unsaved-requires
     same-length
     same-length-2
     same-length-3

@@ -7,7 +7,9 @@ wrapping-add-u32-requires : tie.Need-wrapping-add-u32-requires
 wrapping-add-u32-requires c κs = search needs
 
 returns : tie.Need-returns
-returns c = simp (c .wrapping-add-u32 .ensures)
+returns c =
+    let s = c .before .args .self in
+    λ i. record { size = s .size; entries = s .entries; recorded = s .recorded; dataver = c .wrapping-add-u32 .ensures i }
 
 pub bump-info-dataver-spec : {M : Type 1} → statement M
 bump-info-dataver-spec = tie.close (tie.spec wrapping-add-u32-requires returns)

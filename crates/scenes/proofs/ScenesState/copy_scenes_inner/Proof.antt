@@ -6,7 +6,8 @@ use Rattle.records.specs.declared.Scope.{Scope}
 use Rattle.scenes.specs.Table.{tableOf, entriesOf, currentOf}
 use Rattle.scenes.specs.Current.{invalidateCurrent}
 use Rattle.scenes.specs.Copy.{Copied}
-use Rattle.scenes.proofs.CopyLaws.{Kept, sources-kept, inner-none, inner-stopped, inner-done, as-refused}
+use Rattle.scenes.proofs.Guard.{resultIn}
+use Rattle.scenes.proofs.CopyLaws.{Kept, sources-kept, inner-none, inner-stopped, inner-done}
 use Rattle.scenes.specs.declared.ScenesState.{ScenesState}
 use Rattle.scenes.proofs.ScenesState.copy_scenes_inner.Statement.{statement}
 use Rattle.scenes.proofs.ScenesState.copy_scenes_inner.Tie as tie
@@ -14,8 +15,8 @@ use Rattle.scenes.proofs.ScenesState.copy_scenes_inner.Tie as tie
 room-for-fab-requires : tie.Need-room-for-fab-requires
 room-for-fab-requires c κs = search needs
 
-refused-requires : tie.Need-refused-requires
-refused-requires c κs = search needs
+unsaved-requires : tie.Need-unsaved-requires
+unsaved-requires c κs = search needs
 
 same-length : tie.Need-same-length
 same-length c = search needs
@@ -24,14 +25,14 @@ returns : tie.Need-returns
 returns c =
     let a = c .before .before .before .before .before .before .before .before .args in
     let t = tableOf (a .self) (a .keys .now) (a .times .now) (a .fields .now) (a .records .now) in
-    as-refused (t .slots) (t .records) (c .refused .ensures)
+    ap (resultIn (t .slots) (t .records)) (c .unsaved .ensures)
     ∙ inner-none (a .c) t (sym (c .before .before .room-for-fab .ensures) ∙ c .before .if1 .taken)
 
 copy-sources-requires : tie.Need-copy-sources-requires
 copy-sources-requires c κs = search needs
 
-refused-requires-2 : tie.Need-refused-requires-2
-refused-requires-2 c κs = search needs
+unsaved-requires-2 : tie.Need-unsaved-requires-2
+unsaved-requires-2 c κs = search needs
 
 same-length-2 : tie.Need-same-length-2
 same-length-2 c = search needs
@@ -48,7 +49,7 @@ returns-2 c =
     let branch = call .before .before .before .before in
     let a = branch .before .before .before .before .before .before .before .args in
     let t = tableOf (a .self) (a .keys .now) (a .times .now) (a .fields .now) (a .records .now) in
-    as-refused _ (t .records) (c .refused2 .ensures)
+    ap (resultIn _ (t .records)) (c .unsaved2 .ensures)
     ∙ inner-stopped (a .c) t (λ z. branch .if1 .left (branch .before .room-for-fab .ensures ∙ z)) (call .copy-sources .ensures) (c .before .if2 .taken)
 
 target-scope-requires : tie.Need-target-scope-requires
@@ -89,11 +90,11 @@ copy-scenes-inner-spec =
     tie.close
     (tie.spec
     room-for-fab-requires
-    refused-requires
+    unsaved-requires
     same-length
     returns
     copy-sources-requires
-    refused-requires-2
+    unsaved-requires-2
     same-length-2
     same-length-3
     same-length-4

@@ -1,13 +1,11 @@
 -- `ScenesState::factory_reset` meets its contract. Assumes nothing.
 use mathlib.Core.Path.{refl, ap, _∙_}
-use mathlib.Core.Bool.{false}
+use mathlib.Core.Bool.{true, false}
 use Rattle.words.specs.Constants.{success}
 use Rattle.scenes.specs.declared.ScenesState.{ScenesState}
-use Rattle.scenes.specs.Table.{Table, tableOf}
-use Rattle.scenes.specs.Answer.{resultOf}
+use Rattle.scenes.specs.Table.{Table, tableOf, bumpIf}
 use Rattle.scenes.specs.Lifecycle.{factoryReset}
-use Rattle.scenes.proofs.Guard.{when-passed}
-use Rattle.scenes.proofs.CommandLaws.{passes, refuses-outcome}
+use Rattle.scenes.proofs.Guard.{admits, refuses-outcome, resultIn}
 use borrow.Author.Needs.{needs}
 use Rattle.scenes.proofs.ScenesState.factory_reset.Statement.{statement}
 use Rattle.scenes.proofs.ScenesState.factory_reset.Tie as tie
@@ -22,24 +20,32 @@ came c = let a = start c .args in tableOf (a .self) (a .keys .now) (a .times .no
 refusal-requires : tie.Need-refusal-requires
 refusal-requires c κs = search needs
 
-refused-requires : tie.Need-refused-requires
-refused-requires c κs = search needs
+unsaved-requires : tie.Need-unsaved-requires
+unsaved-requires c κs = search needs
 
 returns : tie.Need-returns
 unfolding factoryReset
-returns c = refuses-outcome (came (c .before .before)) _ _ _ refl (c .before .before .refusal .ensures) _ _ (c .refused .ensures) (c .before .if1 .taken)
+returns c = refuses-outcome (came (c .before .before)) _ _ _ refl (c .before .before .refusal .ensures) _ _ (c .unsaved .ensures) (c .before .if1 .taken)
+
+emptied-requires : tie.Need-emptied-requires
+emptied-requires c κs = search needs
 
 bump-info-dataver-requires : tie.Need-bump-info-dataver-requires
 bump-info-dataver-requires c κs = search needs
 
+unsaved-requires-2 : tie.Need-unsaved-requires-2
+unsaved-requires-2 c κs = search needs
+
 returns-2 : tie.Need-returns-2
 unfolding factoryReset
 returns-2 c =
-    let t = came (c .before .before) in
-    ap (λ (s : ScenesState). resultOf success false (record { state = s; slots = t .slots; records = t .records })) (c .bump-info-dataver .ensures)
-    ∙ when-passed _ _ _ (passes t _ _ _ refl (c .before .before .refusal .ensures) (c .before .if1 .left))
+    let p = c .before .before .before in
+    let t = came (p .before) in
+    ap (resultIn (t .slots) (t .records)) (c .unsaved2 .ensures)
+    ∙ ap (λ (s : ScenesState). resultIn (t .slots) (t .records) (record { status = success; save = false; state = s })) (c .before .bump-info-dataver .ensures ∙ ap (bumpIf true) (c .before .before .emptied .ensures))
+    ∙ admits t _ _ _ refl (p .before .refusal .ensures) (p .if1 .left) .answers _ _
 
 pub factory-reset-spec : {M : Type 1} → statement M
 factory-reset-spec =
     tie.close
-    (tie.spec refusal-requires refused-requires returns bump-info-dataver-requires returns-2)
+    (tie.spec refusal-requires unsaved-requires returns emptied-requires bump-info-dataver-requires unsaved-requires-2 returns-2)

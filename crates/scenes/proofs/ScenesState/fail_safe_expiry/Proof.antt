@@ -1,7 +1,7 @@
 -- `ScenesState::fail_safe_expiry` meets its contract. Assumes nothing.
 use Rattle.scenes.specs.Table.{Table, tableOf}
 use Rattle.scenes.specs.Lifecycle.{failSafe}
-use Rattle.scenes.proofs.CommandLaws.{answers-refusal}
+use Rattle.scenes.proofs.Guard.{answers-refusal}
 use borrow.Author.Needs.{needs}
 use Rattle.scenes.proofs.ScenesState.fail_safe_expiry.Statement.{statement}
 use Rattle.scenes.proofs.ScenesState.fail_safe_expiry.Tie as tie
@@ -16,12 +16,12 @@ came c = let a = start c .args in tableOf (a .self) (a .keys .now) (a .times .no
 refusal-requires : tie.Need-refusal-requires
 refusal-requires c κs = search needs
 
-refused-requires : tie.Need-refused-requires
-refused-requires c κs = search needs
+unsaved-requires : tie.Need-unsaved-requires
+unsaved-requires c κs = search needs
 
 returns : tie.Need-returns
 unfolding failSafe
-returns c = answers-refusal (came (c .before)) _ _ (c .refused .ensures) (c .before .refusal .ensures)
+returns c = answers-refusal (came (c .before)) _ _ (c .unsaved .ensures) (c .before .refusal .ensures)
 
 pub fail-safe-expiry-spec : {M : Type 1} → statement M
-fail-safe-expiry-spec = tie.close (tie.spec refusal-requires refused-requires returns)
+fail-safe-expiry-spec = tie.close (tie.spec refusal-requires unsaved-requires returns)

@@ -1,6 +1,6 @@
 -- `ScenesState::get_scene_membership` meets its contract. Assumes nothing.
 use Prim.Native.Nat.{ℕ, _≤_, _<_}
-use mathlib.Core.Path.{_≡_, refl, sym, ap, _∙_}
+use mathlib.Core.Path.{_≡_, sym, _∙_}
 use mathlib.Core.Bool.{Bool, true, false}
 use mathlib.Core.List.{List}
 use native.Mathlib.Omega.{arith}
@@ -11,20 +11,25 @@ use borrow.Author.Tests.{lt-ltb, le-ltb, leb-true, leb-false}
 use Rattle.words.specs.Constants.{success, listTooLong}
 use Rattle.words.specs.declared.GroupKey.{GroupKey}
 use Rattle.words.specs.declared.KeyRange.the-variants.{Group}
+use Rattle.requests.specs.Requests.{groupGate}
 use Rattle.slots.specs.Slots.{countKeys, laid}
 use Rattle.slots.proofs.Laws.{scenes-length}
 use Rattle.scenes.specs.Table.{Table, tableOf}
-use Rattle.scenes.specs.Answer.{refusalOf}
 use Rattle.scenes.specs.Capacity.{remaining}
 use Rattle.scenes.specs.Reads.{listedOf, unlisted, sceneIds, listIds, getSceneMembership}
-use Rattle.scenes.proofs.Laws.{sound-fits}
-use Rattle.scenes.proofs.Guard.{when-refused, when-passed, passed-sound}
+use Rattle.scenes.proofs.Guard.{Admitted, admits, refuses}
 use Rattle.scenes.proofs.ScenesState.get_scene_membership.Statement.{statement}
 use Rattle.scenes.proofs.ScenesState.get_scene_membership.Tie as tie
 
--- a call that is not refused finds as many key words as there are entries
-in-bounds : (t : Table) (gate : ℕ) {n : ℕ} → n ≡ refusalOf t gate → n ≡ success → t .state .entries ≤ length (t .slots .keys)
-in-bounds t gate e z = let f = sound-fits t (passed-sound t gate (sym e ∙ z)) in omega arith
+-- the entry of the call, and the table that came in
+abbrev start : tie.After-refusal → tie.Start
+start c = c .before .before .before .before .before .before .before
+
+abbrev came : tie.After-refusal → Table
+came c = let a = start c .args in tableOf (a .self) (a .keys .now) (a .times .now) (a .fields .now) (a .records .now)
+
+admitted : (c : tie.Else1) → Admitted (came (c .before)) (groupGate (start (c .before) .args .key) (start (c .before) .args .member))
+admitted c = admits _ _ _ _ (c .before .before .group-gate .ensures) (c .before .refusal .ensures) (c .if1 .left)
 
 -- the list is as long as the group counts
 size-of : (key : GroupKey) (t : Table) → countKeys (t .slots .keys) (t .state .entries) (Group key) ≡ length (sceneIds key t)
@@ -59,29 +64,19 @@ refused-requires c κs = search needs
 returns : tie.Need-returns
 unfolding getSceneMembership
 returns c =
-    let call = c .before .before in
-    let a = call .before .before .before .before .before .before .before .args in
-    let t = tableOf (a .self) (a .keys .now) (a .times .now) (a .fields .now) (a .records .now) in
-    let n = call .refusal .ensures ∙ ap (refusalOf t) (call .before .group-gate .ensures) in
-    (λ d. listedOf (c .refused .ensures d) (a .ids .now))
-    ∙ ap (unlisted (a .ids .now) t) n
-    ∙ when-refused (unlisted (a .ids .now) t) _ _ (λ z. c .before .if1 .taken (n ∙ z))
+    let r = c .before .before in
+    let ids = start r .args .ids .now in
+    (λ d. listedOf (c .refused .ensures d) ids)
+    ∙ refuses (came r) _ _ _ (r .before .group-gate .ensures) (r .refusal .ensures) (unlisted ids (came r)) _ (c .before .if1 .taken)
 
 count-fits-requires : tie.Need-count-fits-requires
-count-fits-requires c κs =
-    let a = c .before .before .before .before .before .before .before .before .args in
-    in-bounds (tableOf (a .self) (a .keys .now) (a .times .now) (a .fields .now) (a .records .now)) _ (c .before .refusal .ensures) (c .if1 .left)
+count-fits-requires c κs = let h = admitted c .room in omega arith
 
 list-scenes-requires : tie.Need-list-scenes-requires
-list-scenes-requires c κs =
-    let a = c .before .before .before .before .before .before .before .before .before .before .before .args in
-    let t = tableOf (a .self) (a .keys .now) (a .times .now) (a .fields .now) (a .records .now) in
-    (in-bounds t _ (c .before .before .before .before .refusal .ensures) (c .before .before .before .if1 .left), leb-true _ _ (sym (c .before .before .count-fits .ensures) ∙ c .before .if2 .taken))
+list-scenes-requires c κs = let h = admitted (c .before .before .before) .room in (omega arith, leb-true _ _ (sym (c .before .before .count-fits .ensures) ∙ c .before .if2 .taken))
 
 remaining-capacity-for-fab-requires : tie.Need-remaining-capacity-for-fab-requires
-remaining-capacity-for-fab-requires c κs =
-    let a = c .before .before .before .before .before .before .before .before .before .before .before .before .before .before .args in
-    in-bounds (tableOf (a .self) (a .keys .now) (a .times .now) (a .fields .now) (a .records .now)) _ (c .before .before .before .before .before .before .before .refusal .ensures) (c .before .before .before .before .before .before .if1 .left)
+remaining-capacity-for-fab-requires c κs = let h = admitted (c .before .before .before .before .before .before) .room in omega arith
 
 same-length : tie.Need-same-length
 same-length c = search needs
@@ -91,14 +86,12 @@ unfolding getSceneMembership
 returns-2 c =
     let list = c .before .before .before in
     let count = list .before .before .before in
-    let call = count .before .before in
-    let a = call .before .before .before .before .before .before .before .args in
-    let t = tableOf (a .self) (a .keys .now) (a .times .now) (a .fields .now) (a .records .now) in
-    let n = call .refusal .ensures ∙ ap (refusalOf t) (call .before .group-gate .ensures) in
-    let size = list .list-scenes .ensures .0 ∙ size-of (a .key) t in
+    let r = count .before .before in
+    let a = start r .args in
+    let size = list .list-scenes .ensures .0 ∙ size-of (a .key) (came r) in
     (λ d. listedOf (record { status = success; remaining = c .remaining-capacity-for-fab .ensures d; len = size d; state = a .self }) (list .list-scenes .ensures .1 d))
-    ∙ list-fits (sceneIds (a .key) t) (remaining (a .self) (a .keys .now) (a .key .fabric)) (a .ids .now) t (fitting (a .key) t (count .count-fits .ensures) (list .before .before .if2 .taken))
-    ∙ when-passed (unlisted (a .ids .now) t) _ _ (sym n ∙ count .before .if1 .left)
+    ∙ list-fits (sceneIds (a .key) (came r)) (remaining (a .self) (a .keys .now) (a .key .fabric)) (a .ids .now) (came r) (fitting (a .key) (came r) (count .count-fits .ensures) (list .before .before .if2 .taken))
+    ∙ admitted (count .before) .answers (unlisted (a .ids .now) (came r)) _
 
 refused-requires-2 : tie.Need-refused-requires-2
 refused-requires-2 c κs = search needs
@@ -107,13 +100,11 @@ returns-3 : tie.Need-returns-3
 unfolding getSceneMembership
 returns-3 c =
     let count = c .before .before in
-    let call = count .before .before in
-    let a = call .before .before .before .before .before .before .before .args in
-    let t = tableOf (a .self) (a .keys .now) (a .times .now) (a .fields .now) (a .records .now) in
-    let n = call .refusal .ensures ∙ ap (refusalOf t) (call .before .group-gate .ensures) in
+    let r = count .before .before in
+    let a = start r .args in
     (λ d. listedOf (c .refused2 .ensures d) (a .ids .now))
-    ∙ list-long (sceneIds (a .key) t) (remaining (a .self) (a .keys .now) (a .key .fabric)) (a .ids .now) t (too-long (a .key) t (count .count-fits .ensures) (c .before .if2 .left))
-    ∙ when-passed (unlisted (a .ids .now) t) _ _ (sym n ∙ count .before .if1 .left)
+    ∙ list-long (sceneIds (a .key) (came r)) (remaining (a .self) (a .keys .now) (a .key .fabric)) (a .ids .now) (came r) (too-long (a .key) (came r) (count .count-fits .ensures) (c .before .if2 .left))
+    ∙ admitted (count .before) .answers (unlisted (a .ids .now) (came r)) _
 
 pub get-scene-membership-spec : {M : Type 1} → statement M
 get-scene-membership-spec =

@@ -1,5 +1,7 @@
 -- `ScenesState::invalidate_current` meets its contract. Assumes nothing.
-use mathlib.Core.Path.{sym, _∙_}
+use mathlib.Core.Path.{sym, ap, _∙_}
+use Rattle.scenes.specs.declared.ScenesState.{ScenesState}
+use Rattle.scenes.specs.Table.{currentOf, bumpIf}
 use Rattle.scenes.specs.Current.{invalidateCurrent}
 use borrow.Author.Needs.{needs}
 use Rattle.scenes.proofs.ScenesState.invalidate_current.Statement.{statement}
@@ -18,8 +20,9 @@ returns : tie.Need-returns
 unfolding invalidateCurrent
 returns c =
     let call = c .before .before .before .before .clear in
-    let hit = sym (call .ensures .0) ∙ c .before .if1 .taken in
-    simp (hit, c .bump-info-dataver .ensures, call .ensures .1)
+    let a = c .before .before .before .before .before .before .before .args in
+    let hit = sym (c .before .if1 .taken) ∙ call .ensures .0 in
+    ap (λ (s : ScenesState). currentOf s (call .last .0)) (c .bump-info-dataver .ensures) ∙ (λ i. currentOf (bumpIf (hit i) (a .self)) (call .ensures .1 i))
 
 same-length-2 : tie.Need-same-length-2
 same-length-2 c = search needs
@@ -28,8 +31,9 @@ returns-2 : tie.Need-returns-2
 unfolding invalidateCurrent
 returns-2 c =
     let call = c .before .before .before .clear in
-    let none = sym (call .ensures .0) ∙ c .if1 .left in
-    simp (none, call .ensures .1)
+    let a = c .before .before .before .before .before .before .args in
+    let none = sym (c .if1 .left) ∙ call .ensures .0 in
+    λ i. currentOf (bumpIf (none i) (a .self)) (call .ensures .1 i)
 
 pub invalidate-current-spec : {M : Type 1} → statement M
 invalidate-current-spec =

@@ -2,18 +2,16 @@
 use Prim.Native.Nat.{_<_}
 use mathlib.Core.Path.{_≡_, sym, ap, _∙_}
 use native.Mathlib.Omega.{arith}
-use Rattle.words.specs.Constants.{success}
 use Rattle.words.specs.Words.{groupOf, sceneOf}
 use Rattle.words.specs.declared.Found.{Found}
 use Rattle.words.specs.declared.Found.the-variants.{At, Nothing}
 use Rattle.records.specs.Records.{firstOwned}
 use Rattle.records.proofs.Laws.{found-under}
 use Rattle.requests.specs.Requests.{infoGate}
-use Rattle.scenes.specs.Table.{Table, tableOf, Room}
-use Rattle.scenes.specs.Answer.{refusalOf}
+use Rattle.scenes.specs.Table.{Table, tableOf}
 use Rattle.scenes.specs.Reads.{readFabricSceneInfo}
-use Rattle.scenes.proofs.Guard.{when-passed}
-use Rattle.scenes.proofs.CommandLaws.{passes, passed-room, refuses, no-row, entries-row, record-row}
+use Rattle.scenes.proofs.Guard.{Admitted, admits, refuses}
+use Rattle.scenes.proofs.CommandLaws.{no-row, entries-row, record-row}
 use borrow.Author.Needs.{needs}
 use Rattle.scenes.proofs.ScenesState.read_fabric_scene_info.Statement.{statement}
 use Rattle.scenes.proofs.ScenesState.read_fabric_scene_info.Tie as tie
@@ -25,11 +23,8 @@ start c = c .before .before .before .before .before .before
 abbrev came : tie.After-refusal → Table
 came c = let a = start c .args in tableOf (a .self) (a .keys .now) (a .times .now) (a .fields .now) (a .records .now)
 
-passed : (c : tie.Else1) → refusalOf (came (c .before)) (infoGate (start (c .before) .args .fabric) (start (c .before) .args .single)) ≡ success
-passed c = passes _ _ _ _ (c .before .before .info-gate .ensures) (c .before .refusal .ensures) (c .if1 .left)
-
-room : (c : tie.Else1) → Room (came (c .before))
-room c = passed-room _ _ (passed c)
+admitted : (c : tie.Else1) → Admitted (came (c .before)) (infoGate (start (c .before) .args .fabric) (start (c .before) .args .single))
+admitted c = admits _ _ _ _ (c .before .before .info-gate .ensures) (c .before .refusal .ensures) (c .if1 .left)
 
 -- the fabric's record
 abbrev owned : tie.After-find → Found
@@ -58,13 +53,13 @@ unfolding readFabricSceneInfo
 returns c = c .absent .ensures ∙ refuses (came (c .before .before)) _ _ _ (c .before .before .before .info-gate .ensures) (c .before .before .refusal .ensures) _ _ (c .before .if1 .taken)
 
 count-requires : tie.Need-count-requires
-count-requires c κs = let h = room c in omega arith
+count-requires c κs = let h = admitted c .room in omega arith
 
 remaining-capacity-for-fab-requires : tie.Need-remaining-capacity-for-fab-requires
-remaining-capacity-for-fab-requires c κs = let h = room (c .before) in omega arith
+remaining-capacity-for-fab-requires c κs = let h = admitted (c .before) .room in omega arith
 
 find-requires : tie.Need-find-requires
-find-requires c κs = let h = room (c .before .before) in omega arith
+find-requires c κs = let h = admitted (c .before .before) .room in omega arith
 
 enum-known-at : tie.Need-enum-known-at
 enum-known-at c = search needs
@@ -85,7 +80,7 @@ returns-2 c =
     let rem = e .before .before .before .remaining-capacity-for-fab .ensures in
     let n = e .before .before .before .before .count .ensures in
     no-row fabric _ _ t _ _ rem n _ (c .absent2 .ensures) (none e) (c .before .if2 .taken)
-    ∙ when-passed _ _ _ (passed p)
+    ∙ admitted p .answers _ _
 
 row-requires : tie.Need-row-requires
 row-requires c κs = search needs
@@ -100,13 +95,13 @@ returns-3 c =
     let rem = e .before .before .before .remaining-capacity-for-fab .ensures in
     let n = e .before .before .before .before .count .ensures in
     entries-row fabric _ _ t _ _ rem n _ (c .row .ensures) (none e) (c .before .if2 .left)
-    ∙ when-passed _ _ _ (passed p)
+    ∙ admitted p .answers _ _
 
 mul-word : tie.Need-mul-word
-mul-word c = let h = room (c .before .before .before .before .before .before) in let u = under (c .before) in omega arith
+mul-word c = let h = admitted (c .before .before .before .before .before .before) .room in let u = under (c .before) in omega arith
 
 shared-slice-read-word : tie.Need-shared-slice-read-word
-shared-slice-read-word c = let h = room (c .before .before .before .before .before .before .before) in let u = under (c .before .before) in omega arith
+shared-slice-read-word c = let h = admitted (c .before .before .before .before .before .before .before) .room in let u = under (c .before .before) in omega arith
 
 key-of-record-requires : tie.Need-key-of-record-requires
 key-of-record-requires c κs = search needs
@@ -134,7 +129,7 @@ returns-4 c =
     let n = a .before .before .before .before .count .ensures in
     let key = c .before .before .before .before .key-of-record .ensures in
     record-row fabric _ _ t _ _ rem n _ _ _ _ _ (c .row2 .ensures) (known a) (c .before .before .before .group-of .ensures ∙ ap groupOf key) (c .before .before .scene-of .ensures ∙ ap sceneOf key) (c .before .is-valid .ensures)
-    ∙ when-passed _ _ _ (passed p)
+    ∙ admitted p .answers _ _
 
 pub read-fabric-scene-info-spec : {M : Type 1} → statement M
 read-fabric-scene-info-spec =

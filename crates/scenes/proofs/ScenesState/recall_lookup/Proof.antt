@@ -5,13 +5,12 @@ use native.Mathlib.Omega.{arith}
 use Rattle.words.specs.Constants.{success}
 use Rattle.words.specs.declared.Found.{Found}
 use Rattle.requests.specs.Requests.{lookupGate}
-use Rattle.scenes.specs.Table.{Table, tableOf, Room}
+use Rattle.scenes.specs.Table.{Table, tableOf}
 use Rattle.scenes.specs.Change.{findScene}
-use Rattle.scenes.specs.Answer.{refusalOf}
 use Rattle.scenes.specs.Reads.{readAt, recallLookup}
 use Rattle.scenes.proofs.Laws.{found-under}
-use Rattle.scenes.proofs.Guard.{when-passed}
-use Rattle.scenes.proofs.CommandLaws.{passes, passed-room, refuses, found-scene}
+use Rattle.scenes.proofs.Guard.{Admitted, admits, refuses}
+use Rattle.scenes.proofs.CommandLaws.{found-scene}
 use borrow.Author.Needs.{needs}
 use Rattle.scenes.proofs.ScenesState.recall_lookup.Statement.{statement}
 use Rattle.scenes.proofs.ScenesState.recall_lookup.Tie as tie
@@ -23,11 +22,8 @@ start c = c .before .before .before .before .before .before
 abbrev came : tie.After-refusal → Table
 came c = let a = start c .args in tableOf (a .self) (a .keys .now) (a .times .now) (a .fields .now) (a .records .now)
 
-passed : (c : tie.Else1) → refusalOf (came (c .before)) (lookupGate (start (c .before) .args .key) (start (c .before) .args .member)) ≡ success
-passed c = passes _ _ _ _ (c .before .before .lookup-gate .ensures) (c .before .refusal .ensures) (c .if1 .left)
-
-room : (c : tie.Else1) → Room (came (c .before))
-room c = passed-room _ _ (passed c)
+admitted : (c : tie.Else1) → Admitted (came (c .before)) (lookupGate (start (c .before) .args .key) (start (c .before) .args .member))
+admitted c = admits _ _ _ _ (c .before .before .lookup-gate .ensures) (c .before .refusal .ensures) (c .if1 .left)
 
 found : (c : tie.After-find) → c .find .result ≡ findScene (start (c .before .before .before) .args .key) (came (c .before .before .before))
 found c = found-scene _ (came (c .before .before .before)) _ _ (c .before .word .ensures) (c .find .ensures)
@@ -52,7 +48,7 @@ word-requires : tie.Need-word-requires
 word-requires c κs = search needs
 
 find-requires : tie.Need-find-requires
-find-requires c κs = let h = room (c .before) in omega arith
+find-requires c κs = let h = admitted (c .before) .room in omega arith
 
 enum-known-at : tie.Need-enum-known-at
 enum-known-at c = search needs
@@ -70,13 +66,13 @@ returns-2 c =
     let p = f .before .before in
     c .refused2 .ensures
     ∙ ap (λ (x : Found). readAt x (start (p .before) .args .transition) (came (p .before))) (sym (c .before .enum-told .given .1) ∙ found f)
-    ∙ when-passed _ _ _ (passed p)
+    ∙ admitted p .answers _ _
 
 mul-effective-time : tie.Need-mul-effective-time
-mul-effective-time c = let h = room (c .before .before .before .before .before) in let u = under (c .before) in omega arith
+mul-effective-time c = let h = admitted (c .before .before .before .before .before) .room in let u = under (c .before) in omega arith
 
 shared-slice-read-effective-time : tie.Need-shared-slice-read-effective-time
-shared-slice-read-effective-time c = let h = room (c .before .before .before .before .before .before) in let u = under (c .before .before) in omega arith
+shared-slice-read-effective-time c = let h = admitted (c .before .before .before .before .before .before) .room in let u = under (c .before .before) in omega arith
 
 effective-time-requires : tie.Need-effective-time-requires
 effective-time-requires c κs = search needs
@@ -88,7 +84,7 @@ returns-3 c =
     let p = a .before .before .before .before in
     ap (λ (n : ℕ). record { status = success; time = n; at = a .at .given .0 .0; state = start (p .before) .args .self }) (c .effective-time .ensures)
     ∙ ap (λ (x : Found). readAt x (start (p .before) .args .transition) (came (p .before))) (sym (a .at .given .1) ∙ found (a .before .before))
-    ∙ when-passed _ _ _ (passed p)
+    ∙ admitted p .answers _ _
 
 pub recall-lookup-spec : {M : Type 1} → statement M
 recall-lookup-spec =

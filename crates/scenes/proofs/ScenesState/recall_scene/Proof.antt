@@ -6,13 +6,13 @@ use Rattle.words.specs.Constants.{success}
 use Rattle.words.specs.declared.Found.{Found}
 use Rattle.words.specs.declared.Found.the-variants.{At}
 use Rattle.requests.specs.Requests.{lookupGate}
-use Rattle.scenes.specs.Table.{Table, tableOf, Room}
+use Rattle.scenes.specs.Table.{Table, tableOf}
 use Rattle.scenes.specs.Current.{rememberCurrent}
 use Rattle.scenes.specs.Change.{findScene}
-use Rattle.scenes.specs.Answer.{resultOf, refusalOf}
+use Rattle.scenes.specs.Answer.{resultOf}
 use Rattle.scenes.specs.Commands.{recallFound, recallScene}
-use Rattle.scenes.proofs.Guard.{when-passed}
-use Rattle.scenes.proofs.CommandLaws.{resultIn, passes, passed-room, refuses-outcome, found-scene, changed-current}
+use Rattle.scenes.proofs.Guard.{Admitted, admits, refuses-outcome, resultIn}
+use Rattle.scenes.proofs.CommandLaws.{found-scene, changed-current}
 use borrow.Author.Needs.{needs}
 use Rattle.scenes.proofs.ScenesState.recall_scene.Statement.{statement}
 use Rattle.scenes.proofs.ScenesState.recall_scene.Tie as tie
@@ -24,11 +24,8 @@ start c = c .before .before .before .before .before .before .before
 abbrev came : tie.After-refusal → Table
 came c = let a = start c .args in tableOf (a .self) (a .keys .now) (a .times .now) (a .fields .now) (a .records .now)
 
-passed : (c : tie.Else1) → refusalOf (came (c .before)) (lookupGate (start (c .before) .args .key) (start (c .before) .args .member)) ≡ success
-passed c = passes _ _ _ _ (c .before .before .before .lookup-gate .ensures) (c .before .refusal .ensures) (c .if1 .left)
-
-room : (c : tie.Else1) → Room (came (c .before))
-room c = passed-room _ _ (passed c)
+admitted : (c : tie.Else1) → Admitted (came (c .before)) (lookupGate (start (c .before) .args .key) (start (c .before) .args .member))
+admitted c = admits _ _ _ _ (c .before .before .before .lookup-gate .ensures) (c .before .refusal .ensures) (c .if1 .left)
 
 found : (c : tie.After-find) → c .find .result ≡ findScene (start (c .before .before .before) .args .key) (came (c .before .before .before))
 found c = found-scene _ (came (c .before .before .before)) _ _ (c .before .word .ensures) (c .find .ensures)
@@ -42,21 +39,21 @@ lookup-gate-requires c κs = search needs
 refusal-requires : tie.Need-refusal-requires
 refusal-requires c κs = search needs
 
-refused-requires : tie.Need-refused-requires
-refused-requires c κs = search needs
+unsaved-requires : tie.Need-unsaved-requires
+unsaved-requires c κs = search needs
 
 same-length : tie.Need-same-length
 same-length c = search needs
 
 returns : tie.Need-returns
 unfolding recallScene
-returns c = refuses-outcome (came (c .before .before)) _ _ _ (c .before .before .before .before .lookup-gate .ensures) (c .before .before .refusal .ensures) _ _ (c .refused .ensures) (c .before .if1 .taken)
+returns c = refuses-outcome (came (c .before .before)) _ _ _ (c .before .before .before .before .lookup-gate .ensures) (c .before .before .refusal .ensures) _ _ (c .unsaved .ensures) (c .before .if1 .taken)
 
 word-requires : tie.Need-word-requires
 word-requires c κs = search needs
 
 find-requires : tie.Need-find-requires
-find-requires c κs = let h = room (c .before) in omega arith
+find-requires c κs = let h = admitted (c .before) .room in omega arith
 
 enum-told : tie.Need-enum-told
 enum-told c = search needs
@@ -64,8 +61,8 @@ enum-told c = search needs
 enum-told-2 : tie.Need-enum-told-2
 enum-told-2 c = search needs
 
-refused-requires-2 : tie.Need-refused-requires-2
-refused-requires-2 c κs = search needs
+unsaved-requires-2 : tie.Need-unsaved-requires-2
+unsaved-requires-2 c κs = search needs
 
 same-length-2 : tie.Need-same-length-2
 same-length-2 c = search needs
@@ -77,21 +74,21 @@ returns-2 c =
     let p = f .before .before in
     let a = start (p .before) .args in
     let t = came (p .before) in
-    ap (resultIn (t .slots) (t .records)) (c .refused2 .ensures)
+    ap (resultIn (t .slots) (t .records)) (c .unsaved2 .ensures)
     ∙ ap (λ (x : Found). recallFound x (a .key) (a .applied) t) (sym (c .before .enum-told2 .given .1) ∙ found f)
-    ∙ when-passed _ _ _ (passed p)
+    ∙ admitted p .answers _ _
 
 enum-told-3 : tie.Need-enum-told-3
 enum-told-3 c = search needs
 
 remember-current-requires : tie.Need-remember-current-requires
-remember-current-requires c κs = let h = room (c .before .before .before .before .before .before .before) in omega arith
+remember-current-requires c κs = let h = admitted (c .before .before .before .before .before .before .before) .room in omega arith
 
 enum-told-4 : tie.Need-enum-told-4
 enum-told-4 c = search needs
 
-refused-requires-3 : tie.Need-refused-requires-3
-refused-requires-3 c κs = search needs
+unsaved-requires-3 : tie.Need-unsaved-requires-3
+unsaved-requires-3 c κs = search needs
 
 same-length-3 : tie.Need-same-length-3
 same-length-3 c = search needs
@@ -105,7 +102,7 @@ returns-3 c =
     let t = came (p .before) in
     ap (resultOf success true) (changed-current t (rememberCurrent key) _ _ (c .before .before .remember-current .ensures))
     ∙ (λ i. recallFound (known e i) key (sym (c .before .before .before .before .enum-told3 .given .1) i) t)
-    ∙ when-passed _ _ _ (passed p)
+    ∙ admitted p .answers _ _
 
 same-length-4 : tie.Need-same-length-4
 same-length-4 c = search needs
@@ -116,9 +113,9 @@ returns-4 c =
     let e = c .before .before .before in
     let p = e .before .before .before .before in
     let t = came (p .before) in
-    ap (resultIn (t .slots) (t .records)) (c .refused3 .ensures)
+    ap (resultIn (t .slots) (t .records)) (c .unsaved3 .ensures)
     ∙ (λ i. recallFound (known e i) (start (p .before) .args .key) (sym (c .before .enum-told4 .given .1) i) t)
-    ∙ when-passed _ _ _ (passed p)
+    ∙ admitted p .answers _ _
 
 pub recall-scene-spec : {M : Type 1} → statement M
 recall-scene-spec =
@@ -126,20 +123,20 @@ recall-scene-spec =
     (tie.spec
     lookup-gate-requires
     refusal-requires
-    refused-requires
+    unsaved-requires
     same-length
     returns
     word-requires
     find-requires
     enum-told
     enum-told-2
-    refused-requires-2
+    unsaved-requires-2
     same-length-2
     returns-2
     enum-told-3
     remember-current-requires
     enum-told-4
-    refused-requires-3
+    unsaved-requires-3
     same-length-3
     returns-3
     same-length-4

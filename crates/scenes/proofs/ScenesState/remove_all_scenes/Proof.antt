@@ -6,13 +6,13 @@ use Rattle.words.specs.Constants.{success}
 use Rattle.words.specs.Words.{groupKeys}
 use Rattle.records.specs.declared.Scope.the-variants.{Group}
 use Rattle.requests.specs.Requests.{groupGate}
-use Rattle.scenes.specs.Table.{Table, tableOf, Room, withEntries}
+use Rattle.scenes.specs.Table.{Table, tableOf, withEntries}
 use Rattle.scenes.specs.Current.{invalidateCurrent}
 use Rattle.scenes.specs.Change.{retainOutside}
-use Rattle.scenes.specs.Answer.{resultOf, refusalOf}
+use Rattle.scenes.specs.Answer.{resultOf}
 use Rattle.scenes.specs.Commands.{removeAllScenes}
-use Rattle.scenes.proofs.Guard.{when-passed}
-use Rattle.scenes.proofs.CommandLaws.{passes, passed-room, refuses-outcome, changed-current, retained-recorded, retained-table, nothing-went, something-went}
+use Rattle.scenes.proofs.Guard.{Admitted, admits, refuses-outcome, resultIn}
+use Rattle.scenes.proofs.CommandLaws.{changed-current, retained-recorded, retained-table, nothing-went, something-went}
 use borrow.Author.Needs.{needs}
 use Rattle.scenes.proofs.ScenesState.remove_all_scenes.Statement.{statement}
 use Rattle.scenes.proofs.ScenesState.remove_all_scenes.Tie as tie
@@ -24,11 +24,8 @@ start c = c .before .before .before .before .before .before .before .before .bef
 abbrev came : tie.After-refusal → Table
 came c = let a = start c .args in tableOf (a .self) (a .keys .now) (a .times .now) (a .fields .now) (a .records .now)
 
-passed : (c : tie.Else1) → refusalOf (came (c .before)) (groupGate (start (c .before) .args .key) (start (c .before) .args .member)) ≡ success
-passed c = passes _ _ _ _ (c .before .before .before .before .before .before .group-gate .ensures) (c .before .refusal .ensures) (c .if1 .left)
-
-room : (c : tie.Else1) → Room (came (c .before))
-room c = passed-room _ _ (passed c)
+admitted : (c : tie.Else1) → Admitted (came (c .before)) (groupGate (start (c .before) .args .key) (start (c .before) .args .member))
+admitted c = admits _ _ _ _ (c .before .before .before .before .before .before .group-gate .ensures) (c .before .refusal .ensures) (c .if1 .left)
 
 -- the table without the group's entries
 abbrev left : tie.After-retain → Table
@@ -44,8 +41,8 @@ group-gate-requires c κs = search needs
 refusal-requires : tie.Need-refusal-requires
 refusal-requires c κs = search needs
 
-refused-requires : tie.Need-refused-requires
-refused-requires c κs = search needs
+unsaved-requires : tie.Need-unsaved-requires
+unsaved-requires c κs = search needs
 
 same-length : tie.Need-same-length
 same-length c = search needs
@@ -61,10 +58,13 @@ same-length-4 c = search needs
 
 returns : tie.Need-returns
 unfolding removeAllScenes
-returns c = refuses-outcome (came (c .before .before)) _ _ _ (c .before .before .before .before .before .before .before .group-gate .ensures) (c .before .before .refusal .ensures) _ _ (c .refused .ensures) (c .before .if1 .taken)
+returns c = refuses-outcome (came (c .before .before)) _ _ _ (c .before .before .before .before .before .before .before .group-gate .ensures) (c .before .before .refusal .ensures) _ _ (c .unsaved .ensures) (c .before .if1 .taken)
 
 retain-requires : tie.Need-retain-requires
-retain-requires c κs = let h = room (c .before .before .before) in omega arith
+retain-requires c κs = let h = admitted (c .before .before .before) .room in omega arith
+
+unsaved-requires-2 : tie.Need-unsaved-requires-2
+unsaved-requires-2 c κs = search needs
 
 same-length-5 : tie.Need-same-length-5
 same-length-5 c = search needs
@@ -81,14 +81,16 @@ same-length-8 c = search needs
 returns-2 : tie.Need-returns-2
 unfolding removeAllScenes
 returns-2 c =
-    let k = c .before .before .before .before .before .before .before .before in
+    let k = c .before .before .before .before .before .before .before .before .before in
     let p = k .before .before .before .before in
-    nothing-went _ (came (p .before)) _ _ (retained k) (c .if2 .taken) ∙ when-passed _ _ _ (passed p)
+    ap (resultIn (left k .slots) (left k .records)) (c .unsaved2 .ensures)
+    ∙ nothing-went _ (came (p .before)) _ _ (retained k) (c .before .if2 .taken)
+    ∙ admitted p .answers _ _
 
 invalidate-current-requires : tie.Need-invalidate-current-requires
 invalidate-current-requires c κs =
     let p = c .before .before .before .before .before .before .before .before .before .before .before .before .before in
-    let h = room p in
+    let h = admitted p .room in
     omega (arith, retained-recorded (came (p .before)) _ _ _ _ _ (c .before .before .before .before .before .before .before .before .before .retain .ensures), h .recorded, h .records)
 
 same-length-9 : tie.Need-same-length-9
@@ -110,7 +112,7 @@ returns-3 c =
     let p = k .before .before .before .before in
     ap (resultOf success true) (changed-current (left k) (invalidateCurrent (Group (start (p .before) .args .key))) _ _ (c .before .before .invalidate-current .ensures))
     ∙ something-went _ (came (p .before)) _ _ (retained k) (c .before .before .before .before .if2 .left)
-    ∙ when-passed _ _ _ (passed p)
+    ∙ admitted p .answers _ _
 
 pub remove-all-scenes-spec : {M : Type 1} → statement M
 remove-all-scenes-spec =
@@ -118,13 +120,14 @@ remove-all-scenes-spec =
     (tie.spec
     group-gate-requires
     refusal-requires
-    refused-requires
+    unsaved-requires
     same-length
     same-length-2
     same-length-3
     same-length-4
     returns
     retain-requires
+    unsaved-requires-2
     same-length-5
     same-length-6
     same-length-7

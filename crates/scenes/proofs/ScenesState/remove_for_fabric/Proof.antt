@@ -2,7 +2,6 @@
 use mathlib.Core.Path.{_≡_, ap, _∙_}
 use mathlib.Core.Bool.{true, false}
 use native.Mathlib.Omega.{arith}
-use lib.ListN.{length}
 use borrow.Author.Tests.{lt-ltb, le-ltb}
 use Rattle.words.specs.Constants.{success}
 use Rattle.words.specs.Words.{fabricKeys}
@@ -10,11 +9,10 @@ use Rattle.requests.specs.Requests.{fabricGate}
 use Rattle.scenes.specs.declared.ScenesState.{ScenesState}
 use Rattle.scenes.specs.Table.{Table, tableOf, withEntries}
 use Rattle.scenes.specs.Change.{retainOutside}
-use Rattle.scenes.specs.Answer.{resultOf, refusalOf}
+use Rattle.scenes.specs.Answer.{resultOf}
 use Rattle.scenes.specs.Lifecycle.{removedFabric, removeForFabric}
-use Rattle.scenes.proofs.Laws.{Fits, sound-fits}
-use Rattle.scenes.proofs.Guard.{when-passed, passed-sound}
-use Rattle.scenes.proofs.CommandLaws.{passes, refuses-outcome, retained-entries, retained-table, others-le, removed-fabric}
+use Rattle.scenes.proofs.Guard.{Admitted, admits, refuses-outcome, resultIn}
+use Rattle.scenes.proofs.CommandLaws.{retained-entries, retained-table, others-le, removed-fabric}
 use borrow.Author.Needs.{needs}
 use Rattle.scenes.proofs.ScenesState.remove_for_fabric.Statement.{statement}
 use Rattle.scenes.proofs.ScenesState.remove_for_fabric.Tie as tie
@@ -26,11 +24,8 @@ start c = c .before .before .before .before .before .before .before .before .bef
 abbrev came : tie.After-refusal → Table
 came c = let a = start c .args in tableOf (a .self) (a .keys .now) (a .times .now) (a .fields .now) (a .records .now)
 
-passed : (c : tie.Else1) → refusalOf (came (c .before)) (fabricGate (start (c .before) .args .fabric)) ≡ success
-passed c = passes _ _ _ _ (c .before .before .before .before .before .before .fabric-gate .ensures) (c .before .refusal .ensures) (c .if1 .left)
-
-fits : (c : tie.Else1) → (let t = came (c .before) in Fits (t .state) (length (t .slots .keys)) (length (t .slots .times)) (length (t .slots .fields)) (length (t .records)))
-fits c = sound-fits _ (passed-sound _ _ (passed c))
+admitted : (c : tie.Else1) → Admitted (came (c .before)) (fabricGate (start (c .before) .args .fabric))
+admitted c = admits _ _ _ _ (c .before .before .before .before .before .before .fabric-gate .ensures) (c .before .refusal .ensures) (c .if1 .left)
 
 -- the table without the fabric's entries
 abbrev left : tie.After-retain → Table
@@ -46,8 +41,8 @@ fabric-gate-requires c κs = search needs
 refusal-requires : tie.Need-refusal-requires
 refusal-requires c κs = search needs
 
-refused-requires : tie.Need-refused-requires
-refused-requires c κs = search needs
+unsaved-requires : tie.Need-unsaved-requires
+unsaved-requires c κs = search needs
 
 same-length : tie.Need-same-length
 same-length c = search needs
@@ -63,23 +58,23 @@ same-length-4 c = search needs
 
 returns : tie.Need-returns
 unfolding removeForFabric
-returns c = refuses-outcome (came (c .before .before)) _ _ _ (c .before .before .before .before .before .before .before .fabric-gate .ensures) (c .before .before .refusal .ensures) _ _ (c .refused .ensures) (c .before .if1 .taken)
+returns c = refuses-outcome (came (c .before .before)) _ _ _ (c .before .before .before .before .before .before .before .fabric-gate .ensures) (c .before .before .refusal .ensures) _ _ (c .unsaved .ensures) (c .before .if1 .taken)
 
 retain-requires : tie.Need-retain-requires
-retain-requires c κs = let h = fits (c .before .before .before) in omega arith
+retain-requires c κs = let h = admitted (c .before .before .before) .room in omega arith
 
 retain-requires-2 : tie.Need-retain-requires-2
-retain-requires-2 c κs = let h = fits (c .before .before .before .before .before .before .before .before .before .before .before) in omega (arith, h .recorded, h .records)
+retain-requires-2 c κs = let h = admitted (c .before .before .before .before .before .before .before .before .before .before .before) .room in omega (arith, h .recorded, h .records)
 
 add-if2 : tie.Need-add-if2
 add-if2 c =
     let p = c .before .before .before .before .before .before .before .before .before .before .before .before .before .before .before in
-    let h = fits p in
+    let h = admitted p .bounds in
     let t = came (p .before) in
     omega (arith, h .most, h .entries, h .recorded, retained-entries t _ _ _ _ _ (c .before .before .before .before .before .before .before .before .before .before .before .retain .ensures), c .before .before .before .retain2 .ensures .0, others-le (t .records) (t .state .recorded) (start (p .before) .args .fabric))
 
 add-if2-2 : tie.Need-add-if2-2
-add-if2-2 c = let h = fits (c .before .before .before .before .before .before .before .before .before .before .before .before .before .before .before) in omega (arith, h .most, h .entries, h .recorded)
+add-if2-2 c = let h = admitted (c .before .before .before .before .before .before .before .before .before .before .before .before .before .before .before) .bounds in omega (arith, h .most, h .entries, h .recorded)
 
 bump-info-dataver-requires : tie.Need-bump-info-dataver-requires
 bump-info-dataver-requires c κs = search needs
@@ -107,7 +102,10 @@ returns-2 c =
     ap (λ (s : ScenesState). resultOf success true (record { state = s; slots = left k .slots; records = c .before .before .before .before .before .retain2 .last .0 })) (c .bump-info-dataver .ensures)
     ∙ removed-fabric fabric t (left k) _ _ true (e .0) (e .1) (lt-ltb _ _ (c .before .if2 .taken))
     ∙ ap (removedFabric fabric t) (retained k)
-    ∙ when-passed _ _ _ (passed p)
+    ∙ admitted p .answers _ _
+
+unsaved-requires-2 : tie.Need-unsaved-requires-2
+unsaved-requires-2 c κs = search needs
 
 same-length-9 : tie.Need-same-length-9
 same-length-9 c = search needs
@@ -124,14 +122,15 @@ same-length-12 c = search needs
 returns-3 : tie.Need-returns-3
 unfolding removeForFabric
 returns-3 c =
-    let k = c .before .before .before .before .before .before .before .before .before .before .before .before in
+    let k = c .before .before .before .before .before .before .before .before .before .before .before .before .before in
     let p = k .before .before .before .before in
     let t = came (p .before) in
     let fabric = start (p .before) .args .fabric in
-    let e = c .before .before .before .before .retain2 .ensures in
-    removed-fabric fabric t (left k) _ _ false (e .0) (e .1) (le-ltb _ _ (c .if2 .left))
+    let r = c .before .before .before .before .before .retain2 in
+    ap (resultIn (left k .slots) (r .last .0)) (c .unsaved2 .ensures)
+    ∙ removed-fabric fabric t (left k) _ _ false (r .ensures .0) (r .ensures .1) (le-ltb _ _ (c .before .if2 .left))
     ∙ ap (removedFabric fabric t) (retained k)
-    ∙ when-passed _ _ _ (passed p)
+    ∙ admitted p .answers _ _
 
 pub remove-for-fabric-spec : {M : Type 1} → statement M
 remove-for-fabric-spec =
@@ -139,7 +138,7 @@ remove-for-fabric-spec =
     (tie.spec
     fabric-gate-requires
     refusal-requires
-    refused-requires
+    unsaved-requires
     same-length
     same-length-2
     same-length-3
@@ -155,6 +154,7 @@ remove-for-fabric-spec =
     same-length-7
     same-length-8
     returns-2
+    unsaved-requires-2
     same-length-9
     same-length-10
     same-length-11

@@ -7,14 +7,14 @@ use Rattle.words.specs.Constants.{success}
 use Rattle.words.specs.declared.Found.{Found}
 use Rattle.records.specs.declared.Scope.the-variants.{Scene}
 use Rattle.requests.specs.Requests.{lookupGate}
-use Rattle.scenes.specs.Table.{Table, tableOf, Room}
+use Rattle.scenes.specs.Table.{Table, tableOf}
 use Rattle.scenes.specs.Current.{invalidateCurrent}
 use Rattle.scenes.specs.Change.{findScene, swapRemove}
-use Rattle.scenes.specs.Answer.{resultOf, refusalOf}
+use Rattle.scenes.specs.Answer.{resultOf}
 use Rattle.scenes.specs.Commands.{removeFound, removeScene}
 use Rattle.scenes.proofs.Laws.{found-under}
-use Rattle.scenes.proofs.Guard.{when-passed}
-use Rattle.scenes.proofs.CommandLaws.{resultIn, passes, passed-room, refuses-outcome, found-scene, changed-both, swapped-recorded}
+use Rattle.scenes.proofs.Guard.{Admitted, admits, refuses-outcome, resultIn}
+use Rattle.scenes.proofs.CommandLaws.{found-scene, changed-both, swapped-recorded}
 use borrow.Author.Needs.{needs}
 use Rattle.scenes.proofs.ScenesState.remove_scene.Statement.{statement}
 use Rattle.scenes.proofs.ScenesState.remove_scene.Tie as tie
@@ -26,11 +26,8 @@ start c = c .before .before .before .before .before .before .before .before .bef
 abbrev came : tie.After-refusal → Table
 came c = let a = start c .args in tableOf (a .self) (a .keys .now) (a .times .now) (a .fields .now) (a .records .now)
 
-passed : (c : tie.Else1) → refusalOf (came (c .before)) (lookupGate (start (c .before) .args .key) (start (c .before) .args .member)) ≡ success
-passed c = passes _ _ _ _ (c .before .before .before .before .before .before .lookup-gate .ensures) (c .before .refusal .ensures) (c .if1 .left)
-
-room : (c : tie.Else1) → Room (came (c .before))
-room c = passed-room _ _ (passed c)
+admitted : (c : tie.Else1) → Admitted (came (c .before)) (lookupGate (start (c .before) .args .key) (start (c .before) .args .member))
+admitted c = admits _ _ _ _ (c .before .before .before .before .before .before .lookup-gate .ensures) (c .before .refusal .ensures) (c .if1 .left)
 
 found : (c : tie.After-find) → c .find .result ≡ findScene (start (c .before .before .before .before) .args .key) (came (c .before .before .before .before))
 found c = found-scene _ (came (c .before .before .before .before)) _ _ (c .before .word .ensures) (c .find .ensures)
@@ -44,8 +41,8 @@ lookup-gate-requires c κs = search needs
 refusal-requires : tie.Need-refusal-requires
 refusal-requires c κs = search needs
 
-refused-requires : tie.Need-refused-requires
-refused-requires c κs = search needs
+unsaved-requires : tie.Need-unsaved-requires
+unsaved-requires c κs = search needs
 
 same-length : tie.Need-same-length
 same-length c = search needs
@@ -61,13 +58,13 @@ same-length-4 c = search needs
 
 returns : tie.Need-returns
 unfolding removeScene
-returns c = refuses-outcome (came (c .before .before)) _ _ _ (c .before .before .before .before .before .before .before .lookup-gate .ensures) (c .before .before .refusal .ensures) _ _ (c .refused .ensures) (c .before .if1 .taken)
+returns c = refuses-outcome (came (c .before .before)) _ _ _ (c .before .before .before .before .before .before .before .lookup-gate .ensures) (c .before .before .refusal .ensures) _ _ (c .unsaved .ensures) (c .before .if1 .taken)
 
 word-requires : tie.Need-word-requires
 word-requires c κs = search needs
 
 find-requires : tie.Need-find-requires
-find-requires c κs = let h = room (c .before .before) in omega arith
+find-requires c κs = let h = admitted (c .before .before) .room in omega arith
 
 enum-known-at : tie.Need-enum-known-at
 enum-known-at c = search needs
@@ -75,8 +72,8 @@ enum-known-at c = search needs
 enum-told : tie.Need-enum-told
 enum-told c = search needs
 
-refused-requires-2 : tie.Need-refused-requires-2
-refused-requires-2 c κs = search needs
+unsaved-requires-2 : tie.Need-unsaved-requires-2
+unsaved-requires-2 c κs = search needs
 
 same-length-5 : tie.Need-same-length-5
 same-length-5 c = search needs
@@ -96,17 +93,17 @@ returns-2 c =
     let f = c .before .before .before in
     let p = f .before .before .before in
     let t = came (p .before) in
-    ap (resultIn (t .slots) (t .records)) (c .refused2 .ensures)
+    ap (resultIn (t .slots) (t .records)) (c .unsaved2 .ensures)
     ∙ ap (λ (x : Found). removeFound x (start (p .before) .args .key) t) (sym (c .before .enum-told .given .1) ∙ found f)
-    ∙ when-passed _ _ _ (passed p)
+    ∙ admitted p .answers _ _
 
 swap-remove-requires : tie.Need-swap-remove-requires
-swap-remove-requires c κs = let h = room (c .before .before .before .before .before .before .before .before .before) in let u = under (c .before .before .before .before) in omega arith
+swap-remove-requires c κs = let h = admitted (c .before .before .before .before .before .before .before .before .before) .room in let u = under (c .before .before .before .before) in omega arith
 
 invalidate-current-requires : tie.Need-invalidate-current-requires
 invalidate-current-requires c κs =
     let p = c .before .before .before .before .before .before .before .before .before .before .before .before .before .before .before .before .before in
-    let h = room p in
+    let h = admitted p .room in
     omega (arith, swapped-recorded (came (p .before)) _ _ _ _ _ (c .before .before .before .before .before .before .before .swap-remove .ensures), h .recorded, h .records)
 
 same-length-9 : tie.Need-same-length-9
@@ -131,7 +128,7 @@ returns-3 c =
     let key = start (p .before) .args .key in
     ap (resultOf success true) (changed-both t (swapRemove (a .at .given .0 .0)) _ _ _ _ (s .swap-remove .ensures) (invalidateCurrent (Scene key)) _ _ (c .before .before .invalidate-current .ensures))
     ∙ ap (λ (x : Found). removeFound x key t) (sym (a .at .given .1) ∙ found (a .before .before))
-    ∙ when-passed _ _ _ (passed p)
+    ∙ admitted p .answers _ _
 
 pub remove-scene-spec : {M : Type 1} → statement M
 remove-scene-spec =
@@ -139,7 +136,7 @@ remove-scene-spec =
     (tie.spec
     lookup-gate-requires
     refusal-requires
-    refused-requires
+    unsaved-requires
     same-length
     same-length-2
     same-length-3
@@ -149,7 +146,7 @@ remove-scene-spec =
     find-requires
     enum-known-at
     enum-told
-    refused-requires-2
+    unsaved-requires-2
     same-length-5
     same-length-6
     same-length-7

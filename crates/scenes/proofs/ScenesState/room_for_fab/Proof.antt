@@ -1,6 +1,6 @@
 -- `ScenesState::room_for_fab` meets its contract. Assumes nothing.
 use Prim.Native.Nat.{ℕ, _-_, _/_, _≤_, min}
-use mathlib.Core.Path.{_≡_}
+use mathlib.Core.Path.{_≡_, ap, _∙_}
 use native.Mathlib.Omega.{arith}
 use Rattle.scenes.specs.Capacity.{roomFor}
 use borrow.Author.Needs.{needs}
@@ -32,7 +32,10 @@ least-requires c κs = search needs
 
 returns-2 : tie.Need-returns-2
 unfolding roomFor
-returns-2 c = cc
+returns-2 c =
+    let s = c .before .before .before .before .before .args .self in
+    c .least .ensures
+    ∙ ap (λ (n : ℕ). min n (s .size - s .entries)) (c .before .saturating-sub .ensures ∙ ap (λ (used : ℕ). (s .size - 1) / 2 - used) (c .before .before .count .ensures))
 
 pub room-for-fab-spec : {M : Type 1} → statement M
 room-for-fab-spec =

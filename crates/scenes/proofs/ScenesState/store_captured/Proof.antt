@@ -10,7 +10,9 @@ use Rattle.scenes.specs.Current.{rememberCurrent}
 use Rattle.scenes.specs.Change.{findScene, Upserted, upsertedOf, upsert}
 use Rattle.scenes.specs.Answer.{Result, resultOf}
 use Rattle.scenes.specs.Commands.{priorTime, stored, storeCaptured}
-use Rattle.scenes.proofs.CommandLaws.{resultIn, found-scene, changed-current, upserted-prior, upserted-head, not-stored, was-stored}
+use Rattle.scenes.proofs.Guard.{resultIn}
+use Rattle.scenes.proofs.Laws.{upserted-head}
+use Rattle.scenes.proofs.CommandLaws.{found-scene, changed-current, upserted-prior, not-stored, was-stored}
 use borrow.Author.Needs.{needs}
 use Rattle.scenes.proofs.ScenesState.store_captured.Statement.{statement}
 use Rattle.scenes.proofs.ScenesState.store_captured.Tie as tie
@@ -73,8 +75,8 @@ upsert-scene-requires c κs =
     let s = start f in
     (s .pre .0, (found f, omega (arith, s .pre .1, ap length (e .1), length-append (s .args .captured .now) (endOfContainer ∷ []))))
 
-refused-requires : tie.Need-refused-requires
-refused-requires c κs = search needs
+unsaved-requires : tie.Need-unsaved-requires
+unsaved-requires c κs = search needs
 
 same-length : tie.Need-same-length
 same-length c = search needs
@@ -92,7 +94,7 @@ returns : tie.Need-returns
 unfolding storeCaptured
 returns c =
     let u = c .before .before .before .before .before .before .before .before .before .before .before in
-    ap (resultIn (after u .table .slots) (after u .table .records)) (c .refused .ensures)
+    ap (resultIn (after u .table .slots) (after u .table .records)) (c .unsaved .ensures)
     ∙ not-stored _ (after u) (c .before .if1 .taken)
     ∙ ap (stored (start (u .before .before .before .before .before .before .before .before) .args .key)) (upserted u)
 
@@ -101,7 +103,7 @@ remember-current-requires c κs =
     let u = c .before .before .before .before .before .before .before .before .before .before .before in
     let room = start (u .before .before .before .before .before .before .before .before) .pre .0 in
     let head = upserted-head _ _ _ _ _ (upserted u) in
-    omega (arith, head .0, head .1, room .recorded, room .records)
+    omega (arith, head .recorded, head .size, room .recorded, room .records)
 
 same-length-5 : tie.Need-same-length-5
 same-length-5 c = search needs
@@ -136,7 +138,7 @@ store-captured-spec =
     array-share-prefix-scratch
     slice-aggregate-upsert-scene
     upsert-scene-requires
-    refused-requires
+    unsaved-requires
     same-length
     same-length-2
     same-length-3

@@ -1,15 +1,13 @@
 -- `ScenesState::store_scene` meets its contract. Assumes nothing.
-use mathlib.Core.Path.{_≡_, _∙_}
+use mathlib.Core.Path.{_∙_}
 use lib.ListN.{length}
-use Rattle.words.specs.Constants.{success, maxFields}
+use Rattle.words.specs.Constants.{maxFields}
 use Rattle.requests.specs.Requests.{storeGate}
 use Rattle.scenes.specs.Table.{Table, tableOf}
-use Rattle.scenes.specs.Answer.{refusalOf}
 use Rattle.scenes.specs.Commands.{storeScene}
-use Rattle.scenes.proofs.Guard.{when-passed, passed-gate}
+use Rattle.scenes.proofs.Guard.{Admitted, admits, refuses-outcome}
 use native.Mathlib.Omega.{arith}
 use Rattle.requests.proofs.Passed.{store-passed}
-use Rattle.scenes.proofs.CommandLaws.{passes, passed-room, refuses-outcome}
 use borrow.Author.Needs.{needs}
 use Rattle.scenes.proofs.ScenesState.store_scene.Statement.{statement}
 use Rattle.scenes.proofs.ScenesState.store_scene.Tie as tie
@@ -21,9 +19,8 @@ start c = c .before .before .before .before .before .before .before .before .bef
 abbrev came : tie.After-refusal → Table
 came c = let a = start c .args in tableOf (a .self) (a .keys .now) (a .times .now) (a .fields .now) (a .records .now)
 
-passed : (c : tie.Else1)
-    → (let a = start (c .before) .args in refusalOf (came (c .before)) (storeGate (a .key) (a .member) maxFields (length (a .captured .now)))) ≡ success
-passed c = passes _ _ _ _ (c .before .before .before .before .before .before .store-gate .ensures) (c .before .refusal .ensures) (c .if1 .left)
+admitted : (c : tie.Else1) → (let a = start (c .before) .args in Admitted (came (c .before)) (storeGate (a .key) (a .member) maxFields (length (a .captured .now))))
+admitted c = admits _ _ _ _ (c .before .before .before .before .before .before .store-gate .ensures) (c .before .refusal .ensures) (c .if1 .left)
 
 store-gate-requires : tie.Need-store-gate-requires
 store-gate-requires c κs = search needs
@@ -31,8 +28,8 @@ store-gate-requires c κs = search needs
 refusal-requires : tie.Need-refusal-requires
 refusal-requires c κs = search needs
 
-refused-requires : tie.Need-refused-requires
-refused-requires c κs = search needs
+unsaved-requires : tie.Need-unsaved-requires
+unsaved-requires c κs = search needs
 
 same-length : tie.Need-same-length
 same-length c = search needs
@@ -48,10 +45,10 @@ same-length-4 c = search needs
 
 returns : tie.Need-returns
 unfolding storeScene
-returns c = refuses-outcome (came (c .before .before)) _ _ _ (c .before .before .before .before .before .before .before .store-gate .ensures) (c .before .before .refusal .ensures) _ _ (c .refused .ensures) (c .before .if1 .taken)
+returns c = refuses-outcome (came (c .before .before)) _ _ _ (c .before .before .before .before .before .before .before .store-gate .ensures) (c .before .before .refusal .ensures) _ _ (c .unsaved .ensures) (c .before .if1 .taken)
 
 store-captured-requires : tie.Need-store-captured-requires
-store-captured-requires c κs = let p = passed (c .before .before .before .before) in (passed-room _ _ p, omega (arith, store-passed _ _ _ _ (passed-gate _ _ p) .1))
+store-captured-requires c κs = let p = admitted (c .before .before .before .before) in (p .room, omega (arith, store-passed _ _ _ _ (p .asked) .1))
 
 same-length-5 : tie.Need-same-length-5
 same-length-5 c = search needs
@@ -67,7 +64,7 @@ same-length-8 c = search needs
 
 returns-2 : tie.Need-returns-2
 unfolding storeScene
-returns-2 c = c .before .before .before .before .before .before .before .before .store-captured .ensures ∙ when-passed _ _ _ (passed (c .before .before .before .before .before .before .before .before .before .before .before .before .before))
+returns-2 c = c .before .before .before .before .before .before .before .before .store-captured .ensures ∙ admitted (c .before .before .before .before .before .before .before .before .before .before .before .before .before) .answers _ _
 
 pub store-scene-spec : {M : Type 1} → statement M
 store-scene-spec =
@@ -75,7 +72,7 @@ store-scene-spec =
     (tie.spec
     store-gate-requires
     refusal-requires
-    refused-requires
+    unsaved-requires
     same-length
     same-length-2
     same-length-3

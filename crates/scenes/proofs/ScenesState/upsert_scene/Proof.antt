@@ -2,12 +2,12 @@
 use Prim.Native.Nat.{ℕ, _<_}
 use mathlib.Core.Path.{sym, ap, _∙_}
 use native.Mathlib.Omega.{arith}
-use borrow.Author.Tests.{ltb-true, ltb-false}
+use borrow.Author.Tests.{ltb-true}
 use Rattle.slots.specs.Slots.{putSlot}
 use Rattle.scenes.specs.Table.{tableOf}
 use Rattle.scenes.specs.Commands.{saved}
-use Rattle.scenes.proofs.Laws.{found-under, upsert-known, upsert-new, upsert-full}
-use Rattle.scenes.proofs.CommandLaws.{resultIn}
+use Rattle.scenes.proofs.Laws.{found-under, upsert-known, upsert-new, may-decide}
+use Rattle.scenes.proofs.Guard.{resultIn}
 use borrow.Author.Needs.{needs}
 use Rattle.scenes.proofs.ScenesState.upsert_scene.Statement.{statement}
 use Rattle.scenes.proofs.ScenesState.upsert_scene.Tie as tie
@@ -57,21 +57,21 @@ returns c =
     ap saved
     (upsert-new (a .key) (a .time) (a .ext .now) t _ _ _ _ _
     (sym (c .before .before .before .before .before .before .before .before .before .before .before .before .before .before .before .before .before .before .before .before .before .before .before .before .pre .1 .0) ∙ c .before .before .before .before .before .before .before .before .before .before .before .before .before .before .before .before .enum-told .given .1)
-    (ltb-true _ _ (sym (c .before .before .before .before .before .before .before .before .before .before .before .before .before .before .before .may-append .ensures) ∙ c .before .before .before .before .before .before .before .before .before .before .before .before .before .before .if1 .taken))
+    (sym (c .before .before .before .before .before .before .before .before .before .before .before .before .before .before .before .may-append .ensures) ∙ c .before .before .before .before .before .before .before .before .before .before .before .before .before .before .if1 .taken)
     (c .before .before .before .before .before .before .before .before .before .before .put .ensures ∙ ap (λ (w : ℕ). putSlot (a .self .entries) w (a .time) (a .ext .now) (t .slots)) word)
     (c .before .before .invalidate-current .ensures))
 
-refused-requires : tie.Need-refused-requires
-refused-requires c κs = search needs
+unsaved-requires : tie.Need-unsaved-requires
+unsaved-requires c κs = search needs
 
 returns-2 : tie.Need-returns-2
 returns-2 c =
     let a = c .before .before .before .before .before .before .before .before .before .before .before .args in
     let t = tableOf (a .self) (a .keys .now) (a .times .now) (a .fields .now) (a .records .now) in
-    ap (resultIn (t .slots) (t .records)) (c .refused .ensures)
-    ∙ ap saved (upsert-full (a .key) (a .time) (a .ext .now) t
+    ap (resultIn (t .slots) (t .records)) (c .unsaved .ensures)
+    ∙ ap saved (may-decide (a .key) (a .time) (a .ext .now) t
     (sym (c .before .before .before .before .before .before .before .before .before .before .before .pre .1 .0) ∙ c .before .before .before .enum-told .given .1)
-    (ltb-false _ _ (sym (c .before .before .may-append .ensures) ∙ c .before .if1 .left)))
+    (sym (c .before .before .may-append .ensures) ∙ c .before .if1 .left))
 
 put-requires-2 : tie.Need-put-requires-2
 put-requires-2 c κs =
@@ -121,7 +121,7 @@ upsert-scene-spec =
     same-length-3
     same-length-4
     returns
-    refused-requires
+    unsaved-requires
     returns-2
     put-requires-2
     invalidate-current-requires-2
