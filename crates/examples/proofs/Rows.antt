@@ -2,65 +2,70 @@
 use Prim.Native.Nat.{ℕ}
 use mathlib.Core.Path.{_≡_, refl, ap, _∙_}
 use mathlib.Core.Bool.{Bool, true, false, cond, _||_}
-use mathlib.Core.List.{List, [], _∷_}
+use mathlib.Core.List.{List, [], _∷_, _++_}
 use mathlib.Core.Logic.{_⊎_, inl, inr, ⊎-elim}
 use native.Mathlib.Omega.{arith}
 use lib.Dec.{eqb}
 use Rattle.words.specs.Constants.{success, constraintError, insufficientSpace, globalScene, reservedScene}
 use Rattle.requests.specs.declared.Membership.{Membership}
 use Rattle.requests.specs.declared.Membership.the-variants.{Yes}
-use Rattle.words.specs.Conditions.{allOf}
 use Rattle.words.specs.Words.{within}
-use Rattle.words.specs.Below.{positions, everyBelow, anyBelow, countBelow, firstBelow, orElse}
-use Rattle.slots.specs.Slots.{firstKey, countKeys, keysSound, lengthsSound, overlay, putSlot, copySlot}
-use Rattle.records.specs.Records.{recordsSound, firstOwned, rememberAt, remember, inScope, anyHit, mapFirst, invalidated}
+use Rattle.words.specs.Below.{countBelow}
+use Rattle.slots.specs.Slots.{countKeys}
 use Rattle.requests.specs.declared.CopyRequest.{CopyRequest}
-use Rattle.requests.specs.Requests.{orNext, firstRefusal, wholeGroup, refuseIf, sceneGate, copiedGate, memberGate, pairsGate, addGate, storeGate, lookupGate, copyGate}
+use Rattle.requests.specs.Requests.{orNext, firstRefusal, wholeGroup, refuseIf, sceneGate, copiedGate, memberGate, lookupGate, copyGate}
 use Rattle.requests.proofs.Laws.{next-pass, next-refuse}
-use Rattle.scenes.specs.Table.{Table, entriesIn}
-use Rattle.scenes.specs.Sound.{fits, sound}
+use Rattle.scenes.proofs.Computing.{soundness, computing}
+use Rattle.scenes.specs.Table.{Table, emptyTable}
+use Rattle.scenes.specs.Sound.{sound}
 use Rattle.scenes.specs.Capacity.{roomFor, remaining}
-use Rattle.scenes.specs.Current.{rememberCurrent, invalidateCurrent}
-use Rattle.scenes.specs.Change.{findScene, putAt, append, upsertAt, upsert, swapRemove}
-use Rattle.scenes.specs.Answer.{Result, refused, refusalOf, guarded}
-use Rattle.scenes.specs.Commands.{addScene, stored, storeCaptured, storeScene, removeFound, removeScene, recallFound, recallScene}
-use Rattle.scenes.specs.Copy.{copyTo, copyEntry, copyFound, copySingle, copyWalk, copySources, copied, copyScenesInner, copyScene}
-use Rattle.scenes.specs.Reads.{readAt, recallLookup, viewScene}
-use Rattle.examples.specs.Rows.{Row, Holds, EveryRow, rows, Naming, byAdd, byView, byRemove, byStore, byRecall, byLookup, bySource, byTarget, named, plain, passes, passing, reserved, Asked, capacity, longest, noCopy, addWorks, midway, removed, versions, added, blank, sceneIn, scenesIn, copyOf, oneOfThree, Copying, request}
+use Rattle.scenes.specs.Change.{findScene}
+use Rattle.scenes.specs.Answer.{refused, refusalOf, guarded}
+use Rattle.scenes.specs.Commands.{removeFound, removeScene}
+use Rattle.scenes.specs.Copy.{copyScenesInner, copyScene}
+use Rattle.examples.specs.Rows.{Row, Holds, EveryRow, rows, Naming, byAdd, byView, byRemove, byStore, byRecall, byLookup, bySource, byTarget, named, plain, passes, passing, reserved, capacity, longest, tooLong, noCopy, addWorks, midway, removed, versions, standing, outcome, sceneIn, abc, copyOf, oneOfThree, Copying, request}
 
 -- ---- the rows of one case
 
-capacities : EveryRow (capacity 0 0 0 ∷ capacity 1 0 0 ∷ capacity 2 0 0 ∷ capacity 3 0 1 ∷ capacity 16 6 1 ∷ capacity 16 7 0 ∷ capacity 1024 0 255 ∷ [])
+abbrev capacityRows : List Row
+capacityRows =
+    capacity 0 0 0 ∷ capacity 1 0 0 ∷ capacity 2 0 0 ∷ capacity 3 0 1 ∷ capacity 16 6 1 ∷ capacity 16 7 0 ∷ capacity 1024 0 255 ∷ []
+
+capacities : EveryRow capacityRows
 unfolding remaining roomFor countKeys countBelow within
 capacities = ((λ _. refl), ((λ _. refl), ((λ _. refl), ((λ _. refl), ((λ _. refl), ((λ _. refl), ((λ _. refl), tt)))))))
 
-calls : EveryRow (longest ∷ addWorks ∷ midway ∷ versions ∷ [])
-unfolding guarded refusalOf sound fits allOf keysSound lengthsSound recordsSound everyBelow addScene viewScene removeScene storeScene recallScene recallLookup copyScene addGate lookupGate storeGate copyGate firstRefusal orNext memberGate pairsGate upsert upsertAt storeCaptured stored removeFound recallFound readAt copyScenesInner copied copySources copySingle copyFound copyWalk copyEntry copyTo roomFor countKeys countBelow within firstKey firstBelow orElse putAt append putSlot overlay swapRemove copySlot invalidateCurrent anyHit anyBelow invalidated mapFirst inScope rememberCurrent remember rememberAt firstOwned remaining entriesIn positions
-calls = ((λ _. refl), ((λ _. refl), ((λ _. refl), ((λ _. refl), tt))))
+abbrev timeRows : List Row
+timeRows = longest ∷ tooLong ∷ []
 
--- keys a, b and c, in a table that is sound
-abbrev abc : Table
-abc = added 0 3 0 (added 0 2 0 (added 0 1 0 (blank 16) .table) .table) .table
+times : EveryRow timeRows
+unfolding computing
+times = ((λ _. refl), ((λ _. refl), tt))
 
+calls : EveryRow (addWorks ∷ midway ∷ versions ∷ [])
+unfolding computing
+calls = ((λ _. refl), ((λ _. refl), ((λ _. refl), tt)))
+
+-- keys a, b and c stand in a table that is sound
 abc-sound : sound abc ≡ true
-unfolding guarded refusalOf sound fits allOf keysSound lengthsSound recordsSound everyBelow addScene viewScene removeScene storeScene recallScene recallLookup copyScene addGate lookupGate storeGate copyGate firstRefusal orNext memberGate pairsGate upsert upsertAt storeCaptured stored removeFound recallFound readAt copyScenesInner copied copySources copySingle copyFound copyWalk copyEntry copyTo roomFor countKeys countBelow within firstKey firstBelow orElse putAt append putSlot overlay swapRemove copySlot invalidateCurrent anyHit anyBelow invalidated mapFirst inScope rememberCurrent remember rememberAt firstOwned remaining entriesIn positions
+unfolding computing
 abc-sound = refl
 
 remove-sound : (t : Table) → sound t ≡ true → removeScene (sceneIn 0 1) Yes t ≡ removeFound (findScene (sceneIn 0 1) t) (sceneIn 0 1) t
 unfolding removeScene guarded refusalOf lookupGate firstRefusal orNext memberGate
 remove-sound t e = rw e
 
-removed-view : scenesIn (removeFound (findScene (sceneIn 0 1) abc) (sceneIn 0 1) abc .table) ≡ 3 ∷ 2 ∷ []
-unfolding guarded refusalOf sound fits allOf keysSound lengthsSound recordsSound everyBelow addScene viewScene removeScene storeScene recallScene recallLookup copyScene addGate lookupGate storeGate copyGate firstRefusal orNext memberGate pairsGate upsert upsertAt storeCaptured stored removeFound recallFound readAt copyScenesInner copied copySources copySingle copyFound copyWalk copyEntry copyTo roomFor countKeys countBelow within firstKey firstBelow orElse putAt append putSlot overlay swapRemove copySlot invalidateCurrent anyHit anyBelow invalidated mapFirst inScope rememberCurrent remember rememberAt firstOwned remaining entriesIn positions
+removed-view : outcome (removeFound (findScene (sceneIn 0 1) abc) (sceneIn 0 1) abc) ≡ 0 ∷ standing 0 3 300 ++ standing 0 2 200
+unfolding computing
 removed-view = refl
 
 removed-row : Holds removed
-removed-row c = ap (λ (r : Result). scenesIn (r .table)) (remove-sound abc abc-sound) ∙ removed-view
+removed-row c = ap outcome (remove-sound abc abc-sound) ∙ removed-view
 
 -- ---- scenes 1 and 254, 0 and 255
 
 passing-status : (b : Bool) (n : Naming) → named (plain n) 0 (cond b 1 254) Yes ≡ passes n
-unfolding guarded refusalOf sound fits allOf keysSound lengthsSound recordsSound everyBelow addScene viewScene removeScene storeScene recallScene recallLookup copyScene addGate lookupGate storeGate copyGate firstRefusal orNext memberGate pairsGate upsert upsertAt storeCaptured stored removeFound recallFound readAt copyScenesInner copied copySources copySingle copyFound copyWalk copyEntry copyTo roomFor countKeys countBelow within firstKey firstBelow orElse putAt append putSlot overlay swapRemove copySlot invalidateCurrent anyHit anyBelow invalidated mapFirst inScope rememberCurrent remember rememberAt firstOwned remaining entriesIn positions
+unfolding computing
 passing-status true byAdd = refl
 passing-status true byView = refl
 passing-status true byRemove = refl
@@ -90,18 +95,19 @@ unfolding copyGate firstRefusal orNext
 target-gate true r g m = both-refuse r
 target-gate false r g m = both-refuse r
 
-refused-copy : (c : CopyRequest) → guarded (refused (blank 16)) (refusalOf (blank 16) constraintError) (copyScenesInner c (blank 16)) .status ≡ constraintError
-unfolding guarded refusalOf sound fits allOf keysSound lengthsSound recordsSound everyBelow
+refused-copy : (c : CopyRequest)
+    → guarded (refused (emptyTable 16)) (refusalOf (emptyTable 16) constraintError) (copyScenesInner c (emptyTable 16)) .status ≡ constraintError
+unfolding guarded refusalOf soundness
 refused-copy c = refl
 
 target-status : (b : Bool) (r g : ℕ) (m : Membership) → named (byTarget r) g (cond b globalScene reservedScene) m ≡ constraintError
 unfolding copyScene
 target-status b r g m =
     let c : CopyRequest = copyOf 0 g r g (cond b globalScene reservedScene) in
-    ap (λ (n : ℕ). guarded (refused (blank 16)) (refusalOf (blank 16) n) (copyScenesInner c (blank 16)) .status) (target-gate b r g m) ∙ refused-copy c
+    ap (λ (n : ℕ). guarded (refused (emptyTable 16)) (refusalOf (emptyTable 16) n) (copyScenesInner c (emptyTable 16)) .status) (target-gate b r g m) ∙ refused-copy c
 
 reserved-status : (b : Bool) (n : Naming) (g : ℕ) (m : Membership) → named n g (cond b globalScene reservedScene) m ≡ constraintError
-unfolding guarded refusalOf sound fits allOf keysSound lengthsSound recordsSound everyBelow addScene viewScene removeScene storeScene recallScene recallLookup copyScene addGate lookupGate storeGate copyGate firstRefusal orNext memberGate pairsGate upsert upsertAt storeCaptured stored removeFound recallFound readAt copyScenesInner copied copySources copySingle copyFound copyWalk copyEntry copyTo roomFor countKeys countBelow within firstKey firstBelow orElse putAt append putSlot overlay swapRemove copySlot invalidateCurrent anyHit anyBelow invalidated mapFirst inScope rememberCurrent remember rememberAt firstOwned remaining entriesIn positions
+unfolding computing
 reserved-status true byAdd g m = refl
 reserved-status true byView g m = refl
 reserved-status true byRemove g m = refl
@@ -147,7 +153,7 @@ gate-either c =
     (copied-either (c .mode) (c .scene))
 
 full : (c : Copying) (n : ℕ) → guarded (refused oneOfThree) (refusalOf oneOfThree n) (copyScenesInner (request c) oneOfThree) .status ≡ cond (eqb n success) insufficientSpace n
-unfolding guarded refusalOf sound fits allOf keysSound lengthsSound recordsSound everyBelow addScene viewScene removeScene storeScene recallScene recallLookup copyScene addGate lookupGate storeGate copyGate firstRefusal orNext memberGate pairsGate upsert upsertAt storeCaptured stored removeFound recallFound readAt copyScenesInner copied copySources copySingle copyFound copyWalk copyEntry copyTo roomFor countKeys countBelow within firstKey firstBelow orElse putAt append putSlot overlay swapRemove copySlot invalidateCurrent anyHit anyBelow invalidated mapFirst inScope rememberCurrent remember rememberAt firstOwned remaining entriesIn positions
+unfolding computing
 full c n = elim (eqb n success) as (λ b. cond b (refused oneOfThree insufficientSpace) (refused oneOfThree n) .status ≡ cond b insufficientSpace n) [ true ↦ refl | false ↦ refl ]
 
 no-copy : Holds noCopy
@@ -159,53 +165,29 @@ no-copy c =
 
 -- ---- the theorem
 
-pub every-row : EveryRow rows
-every-row = (
-  capacities .0,
+abbrev sceneRows : List Row
+sceneRows = passing 1 ∷ passing 254 ∷ reserved globalScene ∷ reserved reservedScene ∷ []
+
+scenes : EveryRow sceneRows
+scenes = (
+  (λ n. ap (λ (k : ℕ). k ∷ []) (passing-status true n)),
   (
-    capacities .1 .0,
+    (λ n. ap (λ (k : ℕ). k ∷ []) (passing-status false n)),
     (
-      capacities .1 .1 .0,
-      (
-        capacities .1 .1 .1 .0,
-        (
-          capacities .1 .1 .1 .1 .0,
-          (
-            capacities .1 .1 .1 .1 .1 .0,
-            (
-              capacities .1 .1 .1 .1 .1 .1 .0,
-              (
-                calls .0,
-                (
-                  (λ n. ap (λ (k : ℕ). k ∷ []) (passing-status true n)),
-                  (
-                    (λ n. ap (λ (k : ℕ). k ∷ []) (passing-status false n)),
-                    (
-                      (λ c. ap (λ (k : ℕ). k ∷ []) (reserved-status true (c .naming) (c .group) (c .member))),
-                      (
-                        (λ c. ap (λ (k : ℕ). k ∷ []) (reserved-status false (c .naming) (c .group) (c .member))),
-                        (
-                          no-copy,
-                          (
-                            calls .1 .0,
-                            (
-                              calls .1 .1 .0,
-                              (
-                                removed-row,
-                                (calls .1 .1 .1 .0, tt),
-                              ),
-                            ),
-                          ),
-                        ),
-                      ),
-                    ),
-                  ),
-                ),
-              ),
-            ),
-          ),
-        ),
-      ),
+      (λ c. ap (λ (k : ℕ). k ∷ []) (reserved-status true (c .naming) (c .group) (c .member))),
+      ((λ c. ap (λ (k : ℕ). k ∷ []) (reserved-status false (c .naming) (c .group) (c .member))), tt),
     ),
   ),
 )
+
+joined : (rs ss : List Row) → EveryRow rs → EveryRow ss → EveryRow (rs ++ ss)
+joined [] ss a b = b
+joined (r ∷ rs) ss a b = (a .0, joined rs ss (a .1) b)
+
+pub every-row : EveryRow rows
+every-row =
+    let others : List Row = noCopy ∷ addWorks ∷ midway ∷ removed ∷ versions ∷ [] in
+    joined capacityRows (timeRows ++ sceneRows ++ others) capacities
+    (joined timeRows (sceneRows ++ others) times
+    (joined sceneRows others scenes
+    (no-copy, (calls .0, (calls .1 .0, (removed-row, (calls .1 .1 .0, tt)))))))

@@ -1,12 +1,12 @@
 -- Document 01, "Boxes on paper": the rows marked P, as one table. Fabric 1, endpoint 1, group 0, N 16 and membership yes unless said.
-use Prim.Native.Nat.{ℕ, _*_}
+use Prim.Native.Nat.{ℕ}
 use mathlib.Core.Path.{_≡_}
-use mathlib.Core.Bool.{Bool, true, false, cond}
-use mathlib.Core.List.{List, [], _∷_, map}
+use mathlib.Core.Bool.{cond}
+use mathlib.Core.List.{List, [], _∷_, _++_}
 use lib.Dec.{eqb}
 use lib.ListN.{replicate}
-use Rattle.words.specs.Constants.{stride, success, constraintError, insufficientSpace, notFound, maxTime, globalScene, reservedScene}
-use Rattle.words.specs.Words.{groupOf, sceneOf}
+use Rattle.words.specs.Constants.{success, constraintError, insufficientSpace, notFound, globalScene, reservedScene}
+use Rattle.words.specs.Words.{keyOf}
 use Rattle.words.specs.declared.SceneKey.{SceneKey}
 use Rattle.slots.specs.Slots.{SceneEntry}
 use Rattle.requests.specs.declared.Membership.{Membership}
@@ -15,7 +15,7 @@ use Rattle.requests.specs.declared.CopyRequest.{CopyRequest}
 use Rattle.requests.specs.Requests.{copyGate}
 use Rattle.scenes.specs.declared.Applied.{Applied}
 use Rattle.scenes.specs.declared.Transition.{Transition}
-use Rattle.scenes.specs.Table.{Table, tableOf, newState, entriesIn}
+use Rattle.scenes.specs.Table.{Table, newState, emptyTable, entriesIn, withEntryCount}
 use Rattle.scenes.specs.Capacity.{remaining}
 use Rattle.scenes.specs.Answer.{Result}
 use Rattle.scenes.specs.Commands.{addScene, storeScene, removeScene, recallScene}
@@ -37,10 +37,6 @@ only computed written = record { Case = Unit {0}; computed = λ _. computed; wri
 
 -- ---- tables and calls
 
--- an empty table of n places
-abbrev pub blank : ℕ → Table
-blank n = tableOf (newState n) (replicate n 0) (replicate n 0) (replicate (n * stride) 0) (replicate n 0)
-
 abbrev pub sceneIn : ℕ → ℕ → SceneKey
 sceneIn g s = record { fabric = 1; endpoint = 1; group = g; scene = s }
 
@@ -48,24 +44,37 @@ abbrev pub added : ℕ → ℕ → ℕ → Table → Result
 added g s time t = addScene (sceneIn g s) time Yes [] [] t
 
 abbrev pub copyOf : ℕ → ℕ → ℕ → ℕ → ℕ → CopyRequest
-copyOf mode g s h r = record { fabric = 1; endpoint = 1; mode = mode; from = record { group = g; scene = s }; to = record { group = h; scene = r } }
+copyOf mode g s h r =
+    record { fabric = 1; endpoint = 1; mode = mode; from = record { group = g; scene = s }; to = record { group = h; scene = r } }
 
--- group and scene of each entry, in order
-abbrev pub listed : Table → List (List ℕ)
-listed t = map (λ x. groupOf (x .key) ∷ sceneOf (x .key) ∷ []) (entriesIn t)
+-- a scene of fabric 1 on endpoint 1, as it stands in a table: its key word, then its time
+abbrev pub standing : ℕ → ℕ → ℕ → List ℕ
+standing g s time = keyOf 1 1 g s ∷ time ∷ []
 
-abbrev pub scenesIn : Table → List ℕ
-scenesIn t = map (λ x. sceneOf (x .key)) (entriesIn t)
+-- the key word and the time of each entry, in order
+abbrev pub keysAndTimes : List SceneEntry → List ℕ
+keysAndTimes [] = []
+keysAndTimes (x ∷ xs) = x .key ∷ x .time ∷ keysAndTimes xs
+
+abbrev pub listed : Table → List ℕ
+listed t = keysAndTimes (entriesIn t)
+
+-- a status, and the entries that the table then has
+abbrev pub outcome : Result → List ℕ
+outcome r = r .status ∷ listed (r .table)
 
 -- ---- the rows
 
 -- capacity: a table of n places whose entries, as many as are used, are all the fabric's
 abbrev pub capacity : ℕ → ℕ → ℕ → Row
-capacity n used left = only (remaining (record { size = n; entries = used; recorded = 0; dataver = 0 }) (replicate n 0x10001000001) 1 ∷ []) (left ∷ [])
+capacity n used left = only (remaining (withEntryCount used (newState n)) (replicate n (keyOf 1 1 0 1)) 1 ∷ []) (left ∷ [])
 
 -- time 60,000,000 is added; 60,000,001 gives 0x87
 abbrev pub longest : Row
-longest = only (added 0 5 60000000 (blank 16) .status ∷ added 0 5 60000001 (blank 16) .status ∷ []) (0 ∷ 0x87 ∷ [])
+longest = only (outcome (added 0 5 60000000 (emptyTable 16))) (0 ∷ standing 0 5 60000000)
+
+abbrev pub tooLong : Row
+tooLong = only (outcome (added 0 5 60000001 (emptyTable 16))) (0x87 ∷ [])
 
 -- the commands that name a scene; a copy names two
 pub data Naming : Type 0 where
@@ -76,14 +85,14 @@ pub data Naming : Type 0 where
 
 -- the status of such a command with scene s in group g, on an empty table
 abbrev pub named : Naming → ℕ → ℕ → Membership → ℕ
-named byAdd g s m = addScene (sceneIn g s) 0 m [] [] (blank 16) .status
-named byView g s m = viewScene (sceneIn g s) m (blank 16) .status
-named byRemove g s m = removeScene (sceneIn g s) m (blank 16) .status
-named byStore g s m = storeScene (sceneIn g s) m [] (blank 16) .status
-named (byRecall a) g s m = recallScene (sceneIn g s) m a (blank 16) .status
-named (byLookup o) g s m = recallLookup (sceneIn g s) m o (blank 16) .status
-named (bySource r) g s m = copyScene (copyOf 0 g s g r) m m (blank 16) .status
-named (byTarget r) g s m = copyScene (copyOf 0 g r g s) m m (blank 16) .status
+named byAdd g s m = addScene (sceneIn g s) 0 m [] [] (emptyTable 16) .status
+named byView g s m = viewScene (sceneIn g s) m (emptyTable 16) .status
+named byRemove g s m = removeScene (sceneIn g s) m (emptyTable 16) .status
+named byStore g s m = storeScene (sceneIn g s) m [] (emptyTable 16) .status
+named (byRecall a) g s m = recallScene (sceneIn g s) m a (emptyTable 16) .status
+named (byLookup o) g s m = recallLookup (sceneIn g s) m o (emptyTable 16) .status
+named (bySource r) g s m = copyScene (copyOf 0 g s g r) m m (emptyTable 16) .status
+named (byTarget r) g s m = copyScene (copyOf 0 g r g s) m m (emptyTable 16) .status
 
 -- scenes 1 and 254 pass: what an empty table answers then
 abbrev pub passes : Naming → ℕ
@@ -121,7 +130,7 @@ reserved s = record { Case = Asked; computed = λ c. named (c .naming) (c .group
 
 -- N 3, one entry: every copy from it that passes 0x87 gives 0x89; add still works
 abbrev pub oneOfThree : Table
-oneOfThree = added 0 5 0 (blank 3) .table
+oneOfThree = added 0 5 0 (emptyTable 3) .table
 
 pub record Copying : Type 0 where
   pub mode : ℕ
@@ -141,25 +150,28 @@ noCopy = record {
 }
 
 abbrev pub addWorks : Row
-addWorks = only (added 0 6 0 oneOfThree .status ∷ []) (success ∷ [])
+addWorks = only (outcome (added 0 6 0 oneOfThree)) (0 ∷ standing 0 5 0 ++ standing 0 6 0)
 
 -- N 7, scenes 1 and 2 in group 1, copied whole to group 2: one copy kept, 0x89, three entries
 abbrev pub sevenCopied : Result
-sevenCopied = copyScene (copyOf 1 1 0 2 0) Yes Yes (added 1 2 0 (added 1 1 0 (blank 7) .table) .table)
+sevenCopied = copyScene (copyOf 1 1 0 2 0) Yes Yes (added 1 2 200 (added 1 1 100 (emptyTable 7) .table) .table)
 
 abbrev pub midway : Row
-midway = only (sevenCopied .status ∷ sevenCopied .table .state .entries ∷ scenesIn (sevenCopied .table)) (0x89 ∷ 3 ∷ 1 ∷ 2 ∷ 1 ∷ [])
+midway = only (sevenCopied .table .state .entries ∷ outcome sevenCopied) (3 ∷ 0x89 ∷ standing 1 1 100 ++ standing 1 2 200 ++ standing 2 1 100)
 
 -- keys a, b, c; remove a; c, b remain in that order
+abbrev pub abc : Table
+abc = added 0 3 300 (added 0 2 200 (added 0 1 100 (emptyTable 16) .table) .table) .table
+
 abbrev pub removed : Row
-removed = only (scenesIn (removeScene (sceneIn 0 1) Yes (added 0 3 0 (added 0 2 0 (added 0 1 0 (blank 16) .table) .table) .table) .table)) (3 ∷ 2 ∷ [])
+removed = only (outcome (removeScene (sceneIn 0 1) Yes abc)) (0 ∷ standing 0 3 300 ++ standing 0 2 200)
 
 -- store the same scene twice from empty: version 1, then 3
 abbrev pub stored : Table → Table
 stored t = storeScene (sceneIn 0 5) Yes [] t .table
 
 abbrev pub versions : Row
-versions = only (stored (blank 16) .state .dataver ∷ stored (stored (blank 16)) .state .dataver ∷ []) (1 ∷ 3 ∷ [])
+versions = only (stored (emptyTable 16) .state .dataver ∷ stored (stored (emptyTable 16)) .state .dataver ∷ []) (1 ∷ 3 ∷ [])
 
 -- ---- the table
 
@@ -173,6 +185,7 @@ rows =
     ∷ capacity 16 7 0
     ∷ capacity 1024 0 255
     ∷ longest
+    ∷ tooLong
     ∷ passing 1
     ∷ passing 254
     ∷ reserved globalScene

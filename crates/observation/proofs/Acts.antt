@@ -19,11 +19,11 @@ use Rattle.scenes.specs.Current.{rememberCurrent, invalidateCurrent}
 use Rattle.scenes.specs.Change.{findScene, putAt, append}
 use Rattle.scenes.specs.Answer.{refusalOf, guarded, resultOf}
 use Rattle.scenes.proofs.Guard.{when-refused, when-passed, refusal-sound}
-use Rattle.observation.specs.Lists.{has, put}
-use Rattle.observation.specs.Views.{entryOf}
 use Rattle.observation.specs.Calls.{Out, ofResult}
-use Rattle.observation.specs.Changes.{View, viewOf, entriesSet, written, invalidated, remembered}
 use Rattle.observation.specs.Equivalence.{ofFabric}
+use Rattle.observation.proofs.Lists.{has, put}
+use Rattle.observation.proofs.Lookups.{entryOf}
+use Rattle.observation.proofs.Changes.{View, viewOf, entriesSet, written, invalidated, remembered}
 use Rattle.observation.proofs.Effects.{Seen}
 use Rattle.observation.proofs.Views.{records-length}
 use Rattle.observation.proofs.Entries.{EntriesOnly, put-known, put-known-sound, put-only, put-new, put-new-sound, append-only}

@@ -22,11 +22,13 @@ use Rattle.scenes.specs.Current.{invalidateCurrent}
 use Rattle.scenes.specs.Change.{findScene, append, Upserted, upsertedOf, written, upsertAt, upsert, swapRemove, retainOutside}
 use Rattle.scenes.specs.Answer.{Result, resultOf, refused}
 use Rattle.scenes.specs.Commands.{saved, addScene, priorTime, stored, storeCaptured, storeScene, removeFound, removeScene, removedAll, removeAllScenes}
-use Rattle.observation.specs.Lists.{count, has, find, keep, takeOut}
-use Rattle.observation.specs.Views.{keyIs, holds, isAt, foundAt, entryOf}
-use Rattle.observation.specs.Calls.{add, store, remove, removeAll, command, step, does, ofResult, FitsCommand, sceneKey, groupKey}
-use Rattle.observation.specs.Changes as changes
-use Rattle.observation.specs.Changes.{viewOf, placeFor, entriesSet, invalidated, remembered}
+use Rattle.observation.specs.Lists.{count, find, keep}
+use Rattle.observation.specs.Calls.{add, store, remove, removeAll, command, step, does, ofResult, CommandInRange, sceneKey, groupKey}
+use Rattle.observation.specs.Equivalence.{keyIs}
+use Rattle.observation.proofs.Lists.{has, takeOut}
+use Rattle.observation.proofs.Lookups.{holds, isAt, foundAt, entryOf}
+use Rattle.observation.proofs.Changes as changes
+use Rattle.observation.proofs.Changes.{viewOf, placeFor, entriesSet, invalidated, remembered}
 use Rattle.observation.proofs.Effects.{Seen, gateOf, done, refuse, timeOf}
 use Rattle.observation.proofs.Views.{entries-has, entries-find, entries-length}
 use Rattle.observation.proofs.Entries.{removed, removed-sound, removed-only, retained, retained-count, retained-sound, retained-only}
@@ -100,7 +102,7 @@ module _ (t : Table) (sd : sound t ≡ true) where
 -- ---- the calls
 
 module _ (f e : ℕ) (t : Table) (sd : sound t ≡ true) (hf : f < 2 ^ 8) (he : e < 2 ^ 16) where
-  pub add-acts : (g s time : ℕ) (m : Membership) (pairs ext : List ℕ) → FitsCommand (add g s time m pairs ext) → gateOf f e (add g s time m pairs ext) ≡ success
+  pub add-acts : (g s time : ℕ) (m : Membership) (pairs ext : List ℕ) → CommandInRange (add g s time m pairs ext) → gateOf f e (add g s time m pairs ext) ≡ success
       → Acts (step (command f e (add g s time m pairs ext)) t)
       (cond (placeFor (wordOf (sceneKey f e g s)) (viewOf t))
       (done true, invalidated (Scene (sceneKey f e g s)) (changes.written (entryOf (sceneKey f e g s) time ext) (viewOf t)))
@@ -114,7 +116,7 @@ module _ (f e : ℕ) (t : Table) (sd : sound t ≡ true) (hf : f < 2 ^ 8) (he : 
       acts-passed (refused t) t sd _ _ ofResult _ p
       (upserts key time ext short k t sd saved _ _ (λ u h. results success true u _ h) (results insufficientSpace false t (viewOf t) (itself t sd)))
 
-  pub store-acts : (g s : ℕ) (m : Membership) (captured : List ℕ) → FitsCommand (store g s m captured) → gateOf f e (store g s m captured) ≡ success
+  pub store-acts : (g s : ℕ) (m : Membership) (captured : List ℕ) → CommandInRange (store g s m captured) → gateOf f e (store g s m captured) ≡ success
       → Acts (step (command f e (store g s m captured)) t)
       (cond (placeFor (wordOf (sceneKey f e g s)) (viewOf t)) (
         done true,

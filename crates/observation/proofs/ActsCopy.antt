@@ -30,10 +30,13 @@ use Rattle.scenes.specs.Copy as scenes
 use Rattle.scenes.specs.Copy.{Copied, copiedOf, copyTo, copyEntry, copyFound, copySingle, copyWalk, copySources, targetScope, copyScenesInner, copyScene}
 use Rattle.scenes.specs.Answer.{resultOf, refused}
 use Rattle.scenes.proofs.Laws.{found-under}
-use Rattle.observation.specs.Lists.{find, has, keep, put}
-use Rattle.observation.specs.Views.{keyIs, holds, isAt, foundAt, entryOf}
-use Rattle.observation.specs.Calls.{copy, command, step, does, ofResult, FitsCommand, sceneKey, groupKey, copyRequest}
-use Rattle.observation.specs.Changes.{View, viewOf, roomIn, written, invalidated, writtenAll}
+use Rattle.scenes.proofs.CopyLaws.{room-free}
+use Rattle.observation.specs.Lists.{find, keep}
+use Rattle.observation.specs.Calls.{copy, command, step, does, ofResult, CommandInRange, sceneKey, groupKey, copyRequest}
+use Rattle.observation.specs.Equivalence.{keyIs}
+use Rattle.observation.proofs.Lists.{has, put}
+use Rattle.observation.proofs.Lookups.{holds, isAt, foundAt, entryOf}
+use Rattle.observation.proofs.Changes.{View, viewOf, roomIn, written, invalidated, writtenAll}
 use Rattle.observation.proofs.Effects.{Seen, gateOf, refuse, done, first, sources, target, scopeOf, copied, copyOut}
 use Rattle.observation.proofs.Positions.{view-at, view-length}
 use Rattle.observation.proofs.Sound.{to-each, word-sound}
@@ -101,10 +104,6 @@ module _ (t : Table) (sd : sound t ≡ true) (i : ℕ) (l : i < t .state .entrie
   unfolding viewOf
   may-is = ap₂ (λ (b : Bool) (n : ℕ). b || ltb 0 n) (entries-has t (wordOf key)) (sym (room (key .fabric) t))
 
-  room-free : 0 < roomFor (t .state) (t .slots .keys) (key .fabric) → t .state .entries < t .state .size
-  unfolding roomFor
-  room-free h = omega arith
-
   copies : mayCopy t key ≡ true → Walked (t .records) (copyEntry i key (itsEntries t)) (success, written (copyOf t i key) (viewOf t))
   unfolding copyEntry copyTo
   copies e =
@@ -112,8 +111,9 @@ module _ (t : Table) (sd : sound t ≡ true) (i : ℕ) (l : i < t .state .entrie
         | At p ↦ λ q m. record { status = refl; shows = writes-over key _ _ copy-short k t sd p q }
         | Nothing ↦ λ q m.
             let h = ltb-true 0 (roomFor (t .state) (t .slots .keys) (key .fabric)) m in
-            rw (ne-eqb (roomFor (t .state) (t .slots .keys) (key .fabric)) 0 (λ z. omega arith))
-            (record { status = refl; shows = writes-new key _ _ copy-short k t sd q (room-free h) })
+            let some : roomFor (t .state) (t .slots .keys) (key .fabric) ≡ 0 → ⊥ = λ z. omega arith in
+            rw (ne-eqb (roomFor (t .state) (t .slots .keys) (key .fabric)) 0 some)
+            (record { status = refl; shows = writes-new key _ _ copy-short k t sd q (room-free (t .state) (t .slots .keys) (key .fabric) some) })
       ]) refl (sym may-is ∙ e)
 
   stuck : mayCopy t key ≡ false → copyEntry i key (itsEntries t) ≡ copiedOf insufficientSpace (itsEntries t)
@@ -327,7 +327,7 @@ module _ (f e : ℕ) (t : Table) (sd : sound t ≡ true) (hf : f < 2 ^ 8) (he : 
         | false ↦ rw (entries-find t (wordOf from)) (one-scene f e h r f₁ hf he hh hr t sd (wordOf from) (firstKey (t .slots .keys) n (wordOf from)) refl)
       ]
 
-  pub copy-acts : (mode g s h r : ℕ) (m n : Membership) → FitsCommand (copy mode g s h r m n) → gateOf f e (copy mode g s h r m n) ≡ success
+  pub copy-acts : (mode g s h r : ℕ) (m n : Membership) → CommandInRange (copy mode g s h r m n) → gateOf f e (copy mode g s h r m n) ≡ success
       → Acts (step (command f e (copy mode g s h r m n)) t)
       (cond (eqb (roomIn f (viewOf t)) 0) (refuse insufficientSpace, viewOf t)
       (copyOut f (scopeOf f e mode h r) (map (target f e mode h r) (sources f e mode g s (viewOf t))) (viewOf t)))

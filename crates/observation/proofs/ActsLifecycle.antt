@@ -21,11 +21,12 @@ use Rattle.scenes.specs.Sound.{sound}
 use Rattle.scenes.specs.Change.{retainOutside}
 use Rattle.scenes.specs.Answer.{refused}
 use Rattle.scenes.specs.Lifecycle.{scenableAttributeChanged, removedFabric, removeForFabric, factoryReset, startup, failSafe}
-use Rattle.observation.specs.Lists.{count, has, keep}
-use Rattle.observation.specs.Views.{holds}
+use Rattle.observation.specs.Lists.{count, keep}
 use Rattle.observation.specs.Calls.{notice, removal, reset, start, failSafeEvent, step, ofResult}
 use Rattle.observation.specs.Equivalence.{mine, ofFabric}
-use Rattle.observation.specs.Changes.{viewOf, stepped, invalidated}
+use Rattle.observation.proofs.Lists.{has}
+use Rattle.observation.proofs.Lookups.{holds}
+use Rattle.observation.proofs.Changes.{viewOf, stepped, invalidated}
 use Rattle.observation.proofs.Effects.{done, refuse}
 use Rattle.observation.proofs.Counts.{count-ext}
 use Rattle.observation.proofs.Losses.{keep-ext, lost, has-count}

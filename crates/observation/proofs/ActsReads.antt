@@ -32,11 +32,12 @@ use Rattle.scenes.specs.Answer.{refused}
 use Rattle.scenes.specs.Commands.{recallFound, recallScene}
 use Rattle.scenes.specs.Reads.{effectiveTime, unread, readAt, viewScene, recallLookup, fieldBytes, sceneIds, listedOf, unlisted, listIds, getSceneMembership, noRow, infoRow, readFabricSceneInfo}
 use Rattle.scenes.proofs.Laws.{found-under}
-use Rattle.observation.specs.Lists.{found, has, find, keep}
-use Rattle.observation.specs.Views.{keyIs, holds, foundAt}
-use Rattle.observation.specs.Calls.{view, recall, membership, info, command, step, does, withState, ofView, ofRecall, ofList, ofInfo, FitsCommand, sceneKey, groupKey}
-use Rattle.observation.specs.Equivalence.{mine}
-use Rattle.observation.specs.Changes.{viewOf, roomIn, remembered}
+use Rattle.observation.specs.Lists.{find, keep}
+use Rattle.observation.specs.Calls.{view, recall, membership, info, command, step, does, withState, ofView, ofRecall, ofList, ofInfo, CommandInRange, sceneKey, groupKey}
+use Rattle.observation.specs.Equivalence.{keyIs, mine}
+use Rattle.observation.proofs.Lists.{found, has}
+use Rattle.observation.proofs.Lookups.{holds, foundAt}
+use Rattle.observation.proofs.Changes.{viewOf, roomIn, remembered}
 use Rattle.observation.proofs.Effects.{gateOf, refuse, shown, viewed, applied, recalled, idsIn, row, infoOut}
 use Rattle.observation.proofs.Counts.{count-ext, keep-map}
 use Rattle.observation.proofs.Positions.{keep-positions}
@@ -137,7 +138,7 @@ module _ (f e : ℕ) (t : Table) (sd : sound t ≡ true) (hf : f < 2 ^ 8) (he : 
       let key = sceneKey f e g s in
       acts-passed (unread t) t sd _ _ (λ r. ofView r t) _ p (rw (entries-find t (wordOf key)) (views t sd key (findScene key t) refl))
 
-  pub recall-acts : (g s : ℕ) (m : Membership) (o : Transition) (a : Applied) → FitsCommand (recall g s m o a) → gateOf f e (recall g s m o a) ≡ success
+  pub recall-acts : (g s : ℕ) (m : Membership) (o : Transition) (a : Applied) → CommandInRange (recall g s m o a) → gateOf f e (recall g s m o a) ≡ success
       → Acts (step (command f e (recall g s m o a)) t) (
         recalled o a (find (keyIs (wordOf (sceneKey f e g s))) (viewOf t .entries)),
         cond (has (keyIs (wordOf (sceneKey f e g s))) (viewOf t .entries) && applied a) (remembered (sceneKey f e g s) (viewOf t)) (viewOf t),

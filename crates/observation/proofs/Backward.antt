@@ -18,11 +18,12 @@ use Rattle.requests.specs.declared.Membership.the-variants.{Yes}
 use Rattle.scenes.specs.Table.{Table, entriesIn}
 use Rattle.scenes.specs.Sound.{sound}
 use Rattle.requests.specs.Requests.{reserved}
-use Rattle.observation.specs.Lists.{bit, found, find, has, keep, put}
-use Rattle.observation.specs.Views.{keyIs, entryOf}
-use Rattle.observation.specs.Calls.{Command, add, view, store, info, command, notice, Answer, answer, next, sceneKey, Fits}
-use Rattle.observation.specs.Equivalence.{own, noticed, Same, wholeCopy, Equivalent, mine, ofFabric, seen, Agree}
-use Rattle.observation.specs.Changes.{View, viewOf, freeIn, usedIn, currentIn, recordFitsIn, placeFor, written, invalidated, remembered}
+use Rattle.observation.specs.Lists.{bit, find, keep}
+use Rattle.observation.specs.Calls.{Command, add, view, store, info, command, notice, Answer, answer, next, sceneKey, InRange}
+use Rattle.observation.specs.Equivalence.{keyIs, own, noticed, Same, wholeCopy, Equivalent, mine, ofFabric, seen, Agree}
+use Rattle.observation.proofs.Lists.{found, has, put}
+use Rattle.observation.proofs.Lookups.{entryOf}
+use Rattle.observation.proofs.Changes.{View, viewOf, freeIn, usedIn, currentIn, recordFitsIn, placeFor, written, invalidated, remembered}
 use Rattle.observation.proofs.Effects.{Seen, sees, done, refuse, timeOf, viewed, infoOut}
 use Rattle.observation.proofs.Laws.{Laws}
 use Rattle.observation.proofs.Counts.{both, count-keep, find-passes, find-counts, find-none, none-find}
@@ -64,10 +65,10 @@ module _ (laws : Laws) (f : ℕ) (f1 : 1 ≤ f) (f255 : f ≤ 255) where
   hf = omega arith
 
   -- a command or read, what is seen after it, and after a notice
-  asks : (s t : Table) → Pair f s t → (e : ℕ) (c : Command) → Fits (command f e c) → Same (answer (command f e c) s) (answer (command f e c) t)
+  asks : (s t : Table) → Pair f s t → (e : ℕ) (c : Command) → InRange (command f e c) → Same (answer (command f e c) s) (answer (command f e c) t)
   asks s t p e c h = p .see (own e c ∷ []) (h, tt) .0
 
-  moves : (s t : Table) → Pair f s t → (e : ℕ) (c : Command) → Fits (command f e c) → wholeCopy c ≡ false → Pair f (next (command f e c) s) (next (command f e c) t)
+  moves : (s t : Table) → Pair f s t → (e : ℕ) (c : Command) → InRange (command f e c) → wholeCopy c ≡ false → Pair f (next (command f e c) s) (next (command f e c) t)
   moves s t p e c h w = record {
     left = step-standing laws (command f e c) s h (p .left);
     right = step-standing laws (command f e c) t h (p .right);
@@ -173,7 +174,7 @@ module _ (laws : Laws) (f : ℕ) (f1 : 1 ≤ f) (f255 : f ≤ 255) where
   -- a fresh key of one is fresh in the other
   record Unused (s t : Table) : Type 0 where
     e : ℕ
-    fits : Fits (command f e adding)
+    fits : InRange (command f e adding)
     here : has (keyIs (probe f e)) (viewOf s .entries) ≡ false
     there : has (keyIs (probe f e)) (viewOf t .entries) ≡ false
 
@@ -186,7 +187,7 @@ module _ (laws : Laws) (f : ℕ) (f1 : 1 ≤ f) (f255 : f ≤ 255) where
       let m = finds s t p k (key-fabric f (r .0) 0 1 hf (omega (arith, r .1)) (omega arith) (omega arith)) in
       record { e = r .0; fits = (hf, omega (arith, r .1), (omega arith, omega arith, omega arith, refl, refl)); here = ap found n; there = ap found (sym m ∙ n) }
 
-  module _ (t : Table) (i : Standing t) (e : ℕ) (h : Fits (command f e adding)) where
+  module _ (t : Table) (i : Standing t) (e : ℕ) (h : InRange (command f e adding)) where
     adds : sees (command f e adding) t
         ≡ cond (placeFor (probe f e) (viewOf t)) (done true, invalidated (Scene (sceneKey f e 0 1)) (written (entryOf (sceneKey f e 0 1) 0 []) (viewOf t))) (refuse insufficientSpace, viewOf t)
     adds = laws .commands f e t (i .intact) hf (h .1) .add-acts 0 1 0 Yes [] [] (h .2) (add-let (sceneKey f e 0 1) (record { fabric = f1; scene = refl }) maxFields)

@@ -3,7 +3,7 @@ use Prim.Native.Nat.{ℕ, _+_, _*_, _/_, _%_, _^_, _<_}
 use native.Mathlib.Omega.{arith}
 use mathlib.Core.Path.{_≡_, refl}
 use mathlib.Core.Bool.{true, false, cond}
-use borrow.Author.Tests.{le-leb, lt-leb}
+use borrow.Author.Tests.{lt-leb}
 use Rattle.words.specs.Words.{wordOf, fabricOf, endpointOf, groupOf, sceneOf, keyOfRecord, isValid}
 use Rattle.records.specs.declared.Scope.{Scope}
 use Rattle.records.specs.Records.{hits, cleared}
@@ -34,9 +34,6 @@ rebuilt k =
 module _ (k : ℕ) where
   pub record-key : k < 2 ^ 48 → keyOfRecord (k + 2 ^ 48) ≡ k
   record-key h = omega arith
-
-  pub record-valid : isValid (k + 2 ^ 48) ≡ true
-  record-valid = le-leb (2 ^ 48) (k + 2 ^ 48) (omega arith)
 
   pub low-key : keyOfRecord (keyOfRecord k) ≡ keyOfRecord k
   low-key = omega arith

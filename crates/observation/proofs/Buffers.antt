@@ -2,7 +2,7 @@
 -- whatever the buffers hold. Assumes nothing.
 use Prim.Native.Nat.{ℕ, _^_, _<_, min}
 use mathlib.Core.Path.{_≡_, refl, sym, ap, _∙_}
-use mathlib.Core.Bool.{Bool, true, false, cond}
+use mathlib.Core.Bool.{true, false, cond}
 use mathlib.Core.List.{List, [], _∷_}
 use lib.Dec.{eqb, ltb}
 use lib.ListN.{length}
@@ -11,8 +11,8 @@ use Rattle.words.specs.Constants.{success, listTooLong, maxShown}
 use Rattle.requests.specs.declared.Membership.{Membership}
 use Rattle.scenes.specs.Table.{Table}
 use Rattle.scenes.specs.Sound.{sound}
-use Rattle.observation.specs.Calls.{Command, membership, command, Answer, answer, FitsCommand}
-use Rattle.observation.specs.Changes.{View, viewOf, roomIn}
+use Rattle.observation.specs.Calls.{membership, command, answer, CommandInRange}
+use Rattle.observation.proofs.Changes.{viewOf, roomIn}
 use Rattle.observation.proofs.Effects.{Seen, sees, gateOf, refuse, idsIn}
 use Rattle.observation.proofs.Calls.{laws}
 
@@ -23,7 +23,7 @@ module _ (t : Table) (sd : sound t ≡ true) (f e g : ℕ) (m : Membership) (hf 
       cond (ltb n (length (idsIn f e g (viewOf t)))) (refuse listTooLong, viewOf t)
       (record { status = success; save = false; values = min (roomIn f (viewOf t)) maxShown ∷ []; ids = idsIn f e g (viewOf t) }, viewOf t)
 
-  pub buffer-length : (b c : List ℕ) → FitsCommand (membership g m b) → FitsCommand (membership g m c) → length b ≡ length c
+  pub buffer-length : (b c : List ℕ) → CommandInRange (membership g m b) → CommandInRange (membership g m c) → length b ≡ length c
       → answer (command f e (membership g m b)) t ≡ answer (command f e (membership g m c)) t
   buffer-length b c hb hc same =
       let all = laws .commands f e t sd hf he in

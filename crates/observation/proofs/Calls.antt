@@ -12,8 +12,8 @@ use Rattle.scenes.specs.Answer.{refused}
 use Rattle.scenes.specs.Commands.{addScene, storeScene, removeScene, removeAllScenes, recallScene}
 use Rattle.scenes.specs.Copy.{copyScene}
 use Rattle.scenes.specs.Reads.{unread, viewScene, recallLookup, unlisted, getSceneMembership, noRow, readFabricSceneInfo}
-use Rattle.observation.specs.Calls.{Command, add, view, remove, removeAll, store, recall, copy, membership, info, Call, command, notice, removal, reset, start, failSafeEvent, step, does, next, withState, ofResult, ofView, ofRecall, ofList, ofInfo, sceneKey, FitsCommand, Fits}
-use Rattle.observation.specs.Changes.{viewOf}
+use Rattle.observation.specs.Calls.{Command, add, view, remove, removeAll, store, recall, copy, membership, info, Call, command, notice, removal, reset, start, failSafeEvent, step, does, next, withState, ofResult, ofView, ofRecall, ofList, ofInfo, sceneKey, CommandInRange, InRange}
+use Rattle.observation.proofs.Changes.{viewOf}
 use Rattle.observation.proofs.Effects.{gateOf, refuse}
 use Rattle.observation.proofs.Laws.{CommandLaws, EventLaws, Laws}
 use Rattle.observation.proofs.Acts.{itself, Acts, results, acts-refused}
@@ -53,7 +53,7 @@ module _ (f e : ℕ) (t : Table) (sd : sound t ≡ true) (hf : f < 2 ^ 8) (he : 
   }
 
   -- past the gate
-  passed-sound : (c : Command) → FitsCommand c → gateOf f e c ≡ success → sound (next (command f e c) t) ≡ true
+  passed-sound : (c : Command) → CommandInRange c → gateOf f e c ≡ success → sound (next (command f e c) t) ≡ true
   passed-sound (add g s time m pairs ext) w p = commands.add-acts f e t sd hf he g s time m pairs ext w p .stays
   passed-sound (view g s m) w p = reads.view-acts f e t sd hf he g s m p .stays
   passed-sound (remove g s m) w p = commands.remove-acts f e t sd hf he g s m p .stays
@@ -64,7 +64,7 @@ module _ (f e : ℕ) (t : Table) (sd : sound t ≡ true) (hf : f < 2 ^ 8) (he : 
   passed-sound (membership g m buffer) w p = reads.membership-acts f e t sd hf he g m buffer p .stays
   passed-sound (info single) w p = reads.info-acts f e t sd hf he single p .stays
 
-  command-sound : (c : Command) → FitsCommand c → sound (next (command f e c) t) ≡ true
+  command-sound : (c : Command) → CommandInRange c → sound (next (command f e c) t) ≡ true
   command-sound c w =
       (elim (eqb (gateOf f e c) success) as (λ b. eqb (gateOf f e c) success ≡ b → sound (next (command f e c) t) ≡ true) [
         | true ↦ λ q. passed-sound c w (eqb-true (gateOf f e c) success q)
@@ -86,7 +86,7 @@ module _ (t : Table) (sd : sound t ≡ true) where
   removal-sound zero = lifecycle.removal-refused t sd .stays
   removal-sound (suc f) = lifecycle.removal-acts t sd (suc f) (λ z. omega arith) .stays
 
-pub step-sound : (c : Call) (t : Table) → Fits c → sound t ≡ true → sound (next c t) ≡ true
+pub step-sound : (c : Call) (t : Table) → InRange c → sound t ≡ true → sound (next c t) ≡ true
 step-sound (command f e c) t w sd = command-sound f e t sd (w .0) (w .1) c (w .2)
 step-sound (notice e) t w sd = lifecycle.notice-acts t sd e .stays
 step-sound (removal f) t w sd = removal-sound t sd f

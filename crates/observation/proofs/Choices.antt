@@ -7,7 +7,8 @@ use mathlib.Core.List.{List, [], _∷_}
 use mathlib.Core.Option.{Option, none, some}
 use lib.ListN.{length}
 use Rattle.words.proofs.Tests.{and-right}
-use Rattle.observation.specs.Lists.{bit, found, count, find, has, put, keep, takeOut}
+use Rattle.observation.specs.Lists.{bit, count, find, keep}
+use Rattle.observation.proofs.Lists.{found, has, put, takeOut}
 use Rattle.observation.proofs.Counts.{count-le, count-put, count-takeOut, count-keep, length-count, opt, find-none, none-find, find-counts, find-passes}
 
 -- ---- choices
@@ -31,6 +32,10 @@ or-none false b e = (refl, e)
 pub or-other : (a b : Bool) → (a || b) ≡ true → a ≡ false → b ≡ true
 or-other true b e n = absurd (false≢true (sym n))
 or-other false b e n = e
+
+pub and-other : (a b : Bool) → (a && b) ≡ false → a ≡ true → b ≡ false
+and-other true b e y = e
+and-other false b e y = absurd (false≢true y)
 
 pub bit-zero : (b : Bool) → bit b ≡ 0 → b ≡ false
 bit-zero true e = absurd (omega arith)

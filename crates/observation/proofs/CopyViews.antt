@@ -11,10 +11,10 @@ use borrow.Author.Tests.{ltb-true, ltb-false, lt-leb, eqb-true, eq-eqb}
 use Rattle.words.specs.Words.{fabricOf}
 use Rattle.words.proofs.Tests.{and-false}
 use Rattle.slots.specs.Slots.{SceneEntry}
-use Rattle.observation.specs.Lists.{bit, found, count, find, has, put, Often}
-use Rattle.observation.specs.Views.{keyIs}
-use Rattle.observation.specs.Equivalence.{mine}
-use Rattle.observation.specs.Changes.{View, usedIn, roomIn, entriesSet, written, writtenAll}
+use Rattle.observation.specs.Lists.{bit, count, find}
+use Rattle.observation.specs.Equivalence.{keyIs, mine}
+use Rattle.observation.proofs.Lists.{found, has, put, Often}
+use Rattle.observation.proofs.Changes.{View, usedIn, roomIn, entriesSet, written, writtenAll}
 use Rattle.observation.proofs.Counts.{both, count-ext, count-le, count-or, opt, count-put, find-passes, length-put}
 use Rattle.observation.proofs.Choices.{or-none, bit-zero, count-none, has-same, length-put-has}
 use Rattle.observation.proofs.Invariant.{bad, Good, Inv, put-good, room-free, writtenAll-inv}

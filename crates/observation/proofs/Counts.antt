@@ -7,7 +7,8 @@ use mathlib.Core.List.{List, [], _∷_, _++_, map}
 use mathlib.Core.Option.{Option, none, some, Option·map, Option·none-ne-some, Option·some-injective}
 use lib.ListN.{length}
 use Rattle.words.proofs.Tests.{and-left, and-right}
-use Rattle.observation.specs.Lists.{bit, found, count, find, has, keep, put, behindFirst, lastFirst, takeOut}
+use Rattle.observation.specs.Lists.{bit, count, find, keep}
+use Rattle.observation.proofs.Lists.{found, has, put, behindFirst, lastFirst, takeOut}
 
 pub both : (a b : Bool) → (a && b) ≡ true → (a ≡ true) × (b ≡ true)
 both a b e = (and-left a b e, and-right a b e)

@@ -17,10 +17,12 @@ use Rattle.scenes.specs.declared.Applied.the-variants.{Yes, Failed}
 use Rattle.scenes.specs.declared.Transition.{Transition}
 use Rattle.scenes.specs.Table.{Table}
 use Rattle.scenes.specs.Reads.{effectiveTime}
-use Rattle.observation.specs.Lists.{bit, found, count, find, keep}
-use Rattle.observation.specs.Views.{keyIs, holds}
+use Rattle.observation.specs.Lists.{bit, count, find, keep}
 use Rattle.observation.specs.Calls.{Command, add, view, remove, removeAll, store, recall, copy, membership, info, Call, Answer, answer, next, sceneKey, groupKey, copyRequest}
-use Rattle.observation.specs.Changes.{View, viewOf, roomIn, currentIn, invalidated, writtenAll}
+use Rattle.observation.specs.Equivalence.{keyIs}
+use Rattle.observation.proofs.Lists.{found}
+use Rattle.observation.proofs.Lookups.{holds}
+use Rattle.observation.proofs.Changes.{View, viewOf, roomIn, currentIn, invalidated, writtenAll}
 
 -- what a call answers and what it leaves to be seen
 abbrev pub Seen : Type 0

@@ -20,8 +20,10 @@ use Rattle.scenes.specs.Table.{Table, entriesIn, recordsIn, withEntries}
 use Rattle.scenes.specs.Sound.{sound}
 use Rattle.scenes.specs.Change.{findScene, putAt, append, swapRemove, retainOutside}
 use Rattle.scenes.proofs.Laws.{found-under}
-use Rattle.observation.specs.Lists.{keep, put, takeOut}
-use Rattle.observation.specs.Views.{keyIs, holds, entryOf}
+use Rattle.observation.specs.Lists.{keep}
+use Rattle.observation.specs.Equivalence.{keyIs}
+use Rattle.observation.proofs.Lists.{put, takeOut}
+use Rattle.observation.proofs.Lookups.{holds, entryOf}
 use Rattle.observation.proofs.Counts.{keep-map}
 use Rattle.observation.proofs.Firsts.{First, Nowhere, put-first, put-nowhere, takeOut-first}
 use Rattle.observation.proofs.Positions.{keep-positions, view-more, view-at, view-ext, view-same, view-take, view-set, view-first, view-nowhere}

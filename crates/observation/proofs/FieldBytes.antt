@@ -1,43 +1,36 @@
 -- The field bytes at the position that a view or a recall's lookup answers are those of the scene that was asked for, and none where it
 -- was refused. Assumes nothing.
-use Prim.Native.Nat.{ℕ, _≤_, _<_}
+use Prim.Native.Nat.{ℕ, _<_}
 use mathlib.Core.Path.{_≡_, refl, subst}
-use mathlib.Core.Bool.{Bool, true, false, cond, _&&_}
-use mathlib.Core.List.{List, []}
+use mathlib.Core.Bool.{true, false, cond, _&&_}
+use mathlib.Core.List.{[]}
 use native.Mathlib.Omega.{arith}
 use lib.Dec.{eqb, ltb}
 use borrow.Author.Tests.{lt-ltb, le-ltb, eqb-true, eqb-false}
 use Rattle.words.specs.Constants.{success, notFound, maxScenes}
-use Rattle.words.specs.declared.Found.{Found}
 use Rattle.words.specs.declared.Found.the-variants.{At, Nothing}
 use Rattle.words.specs.Words.{wordOf}
 use Rattle.words.specs.declared.SceneKey.{SceneKey}
-use Rattle.slots.specs.Slots.{entryAt, fieldsAt}
+use Rattle.slots.specs.Slots.{fieldsAt}
 use Rattle.requests.specs.declared.Membership.{Membership}
 use Rattle.requests.specs.Requests.{lookupGate}
 use Rattle.scenes.specs.declared.Transition.{Transition}
 use Rattle.scenes.specs.declared.Transition.the-variants.{Stored}
-use Rattle.scenes.specs.declared.SceneRead.{SceneRead}
 use Rattle.scenes.specs.Table.{Table}
 use Rattle.scenes.specs.Sound.{sound}
 use Rattle.scenes.specs.Change.{findScene}
 use Rattle.scenes.specs.Answer.{refusalOf, guarded}
 use Rattle.scenes.specs.Reads.{unread, readAt, recallLookup, viewScene, fieldBytes}
-use Rattle.scenes.proofs.Laws.{sound-fits, found-under}
+use Rattle.scenes.proofs.Laws.{sound-bounds, found-under}
 use Rattle.scenes.proofs.Guard.{when-refused, when-passed, passed-sound}
-
--- what a read that succeeded says of its scene, and a refused one of no scene
-pub record Tied (key : SceneKey) (t : Table) (r : SceneRead) : Type 0 where
-  pub found : r .status ≡ success → findScene key t ≡ At (r .at)
-  pub fields : r .status ≡ success → fieldBytes (r .at) t ≡ entryAt (t .slots) (r .at) .fields
-  pub nothing : (r .status ≡ success → ⊥) → fieldBytes (r .at) t ≡ []
+use Rattle.observation.specs.FieldBytes.{Tied}
 
 -- no table has an entry at the position of a refusal
 past : (t : Table) → fieldBytes maxScenes t ≡ []
 unfolding fieldBytes
 past t =
     (elim (sound t) as (λ b. sound t ≡ b → cond (b && ltb maxScenes (t .state .entries)) (fieldsAt (t .slots .fields) maxScenes) [] ≡ []) [
-      | true ↦ λ e. let f = sound-fits t e in rw (le-ltb maxScenes (t .state .entries) (omega arith))
+      | true ↦ λ e. let f = sound-bounds t e in rw (le-ltb maxScenes (t .state .entries) (omega arith))
       | false ↦ λ _. refl
     ]) refl
 

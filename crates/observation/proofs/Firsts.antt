@@ -7,7 +7,8 @@ use mathlib.Core.Option.{none, some}
 use native.Mathlib.Omega.{arith}
 use native.Mathlib.Nat.{not-suc-le-zero, le-of-suc-le-suc}
 use lib.ListN.{length, take, getD, set}
-use Rattle.observation.specs.Lists.{bit, count, find, put, behindFirst, lastFirst, takeOut}
+use Rattle.observation.specs.Lists.{bit, count, find}
+use Rattle.observation.proofs.Lists.{put, behindFirst, lastFirst, takeOut}
 use Rattle.observation.proofs.Counts.{find-none}
 
 module _ {A : Type 0} (d : A) where

@@ -14,9 +14,9 @@ use Rattle.records.specs.declared.Scope.the-variants.{Endpoint}
 use Rattle.scenes.specs.Table.{Table, entriesIn}
 use Rattle.scenes.specs.Sound.{sound}
 use Rattle.observation.specs.Lists.{count, keep}
-use Rattle.observation.specs.Calls.{Command, command, notice, answer, next, FitsCommand}
-use Rattle.observation.specs.Equivalence.{Event, own, noticed, wholeCopy, unless, Alike, AllFit, mine, Agree}
-use Rattle.observation.specs.Changes.{viewOf}
+use Rattle.observation.specs.Calls.{Command, command, notice, answer, next, CommandInRange}
+use Rattle.observation.specs.Equivalence.{Event, own, noticed, wholeCopy, unless, Alike, AllInRange, mine, Agree}
+use Rattle.observation.proofs.Changes.{viewOf}
 use Rattle.observation.proofs.Effects.{Seen, sees}
 use Rattle.observation.proofs.Laws.{Laws}
 use Rattle.observation.proofs.Counts.{count-ext, count-keep}
@@ -28,7 +28,7 @@ use Rattle.observation.proofs.Respond.{Kept}
 use Rattle.observation.proofs.Reach.{lawful, Standing, step-standing}
 
 module _ (laws : Laws) where
-  step-sim : (f e : ℕ) (c : Command) (s t : Table) → f < 2 ^ 8 → e < 2 ^ 16 → FitsCommand c → Standing s → Standing t → Sim f (viewOf s) (viewOf t)
+  step-sim : (f e : ℕ) (c : Command) (s t : Table) → f < 2 ^ 8 → e < 2 ^ 16 → CommandInRange c → Standing s → Standing t → Sim f (viewOf s) (viewOf t)
       → Kept f c (sees (command f e c) s) (sees (command f e c) t)
   step-sim f e c s t hf he hc i j a =
       let l = lawful laws f e c hf he hc in
@@ -39,7 +39,7 @@ module _ (laws : Laws) where
       subst₂ (λ (o o′ : Seen). Sim f (o .1) (o′ .1)) (sym (laws .events s (i .intact) .notice-acts e he)) (sym (laws .events t (j .intact) .notice-acts e he))
       (sim-invalidated f (Endpoint e) (viewOf s) (viewOf t) (endpoint-seen e) a)
 
-  pub alike : (f : ℕ) (xs : List Event) (s t : Table) → AllFit f xs → Standing s → Standing t → Sim f (viewOf s) (viewOf t) → Alike f xs s t
+  pub alike : (f : ℕ) (xs : List Event) (s t : Table) → AllInRange f xs → Standing s → Standing t → Sim f (viewOf s) (viewOf t) → Alike f xs s t
   alike f [] s t h i j a = tt
   alike f (own e c ∷ xs) s t h i j a =
       let k = step-sim f e c s t (h .0 .0) (h .0 .1) (h .0 .2) i j a in

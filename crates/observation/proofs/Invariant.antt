@@ -16,11 +16,11 @@ use Rattle.words.specs.declared.SceneKey.{SceneKey}
 use Rattle.slots.specs.Slots.{SceneEntry, keySound}
 use Rattle.records.specs.declared.Scope.{Scope}
 use Rattle.records.specs.Records.{recordSound, hits, cleared}
-use Rattle.observation.specs.Lists.{bit, count, has, keep, put, takeOut}
-use Rattle.observation.specs.Views.{keyIs}
+use Rattle.observation.specs.Lists.{bit, count, keep}
 use Rattle.observation.specs.Calls.{sceneKey}
-use Rattle.observation.specs.Equivalence.{mine, ofFabric}
-use Rattle.observation.specs.Changes.{View, roomIn, recordFitsIn, placeFor, entriesSet, written, invalidated, remembered, writtenAll}
+use Rattle.observation.specs.Equivalence.{keyIs, mine, ofFabric}
+use Rattle.observation.proofs.Lists.{has, put, takeOut}
+use Rattle.observation.proofs.Changes.{View, roomIn, recordFitsIn, placeFor, entriesSet, written, invalidated, remembered, writtenAll}
 use Rattle.observation.proofs.Counts.{count-ext, count-put, count-takeOut, count-map}
 use Rattle.observation.proofs.Choices.{cond-elim, or-none, or-other, bit-zero, count-less, count-keep-le, length-put-has, less-keep, put-once}
 use Rattle.observation.proofs.Bits.{key-fabric, key-scene, key-small, record-key, low-key, cleared-key}

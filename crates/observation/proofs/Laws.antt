@@ -14,34 +14,35 @@ use Rattle.scenes.specs.declared.Applied.{Applied}
 use Rattle.scenes.specs.declared.Transition.{Transition}
 use Rattle.scenes.specs.Table.{Table}
 use Rattle.scenes.specs.Sound.{sound}
-use Rattle.observation.specs.Lists.{find, has, keep, takeOut}
-use Rattle.observation.specs.Views.{keyIs, holds, entryOf}
-use Rattle.observation.specs.Calls.{Command, add, view, remove, removeAll, store, recall, copy, membership, info, Call, command, notice, removal, reset, start, failSafeEvent, next, sceneKey, groupKey, FitsCommand, Fits}
-use Rattle.observation.specs.Equivalence.{mine, ofFabric}
-use Rattle.observation.specs.Changes.{View, viewOf, roomIn, placeFor, stepped, entriesSet, written, invalidated, remembered}
+use Rattle.observation.specs.Lists.{find, keep}
+use Rattle.observation.specs.Calls.{Command, add, view, remove, removeAll, store, recall, copy, membership, info, Call, command, notice, removal, reset, start, failSafeEvent, next, sceneKey, groupKey, CommandInRange, InRange}
+use Rattle.observation.specs.Equivalence.{keyIs, mine, ofFabric}
+use Rattle.observation.proofs.Lists.{has, takeOut}
+use Rattle.observation.proofs.Lookups.{holds, entryOf}
+use Rattle.observation.proofs.Changes.{View, viewOf, roomIn, placeFor, stepped, entriesSet, written, invalidated, remembered}
 use Rattle.observation.proofs.Effects.{sees, refuse, done, gateOf, timeOf, viewed, applied, recalled, sources, target, scopeOf, copyOut, idsIn, infoOut}
 
 -- the laws of one fabric's commands on one endpoint, of one sound table whose view is v
 pub record CommandLaws (f e : ℕ) (t : Table) (v : View) : Type 0 where
-  pub refused-acts : (c : Command) → FitsCommand c → (gateOf f e c ≡ 0 → ⊥) → sees (command f e c) t ≡ (refuse (gateOf f e c), v)
-  pub add-acts : (g s time : ℕ) (m : Membership) (pairs ext : List ℕ) → FitsCommand (add g s time m pairs ext) → gateOf f e (add g s time m pairs ext) ≡ 0
+  pub refused-acts : (c : Command) → CommandInRange c → (gateOf f e c ≡ 0 → ⊥) → sees (command f e c) t ≡ (refuse (gateOf f e c), v)
+  pub add-acts : (g s time : ℕ) (m : Membership) (pairs ext : List ℕ) → CommandInRange (add g s time m pairs ext) → gateOf f e (add g s time m pairs ext) ≡ 0
       → sees (command f e (add g s time m pairs ext)) t
       ≡ cond (placeFor (wordOf (sceneKey f e g s)) v)
       (done true, invalidated (Scene (sceneKey f e g s)) (written (entryOf (sceneKey f e g s) time ext) v))
       (refuse insufficientSpace, v)
-  pub view-acts : (g s : ℕ) (m : Membership) → FitsCommand (view g s m) → gateOf f e (view g s m) ≡ 0
+  pub view-acts : (g s : ℕ) (m : Membership) → CommandInRange (view g s m) → gateOf f e (view g s m) ≡ 0
       → sees (command f e (view g s m)) t ≡ (viewed (find (keyIs (wordOf (sceneKey f e g s))) (v .entries)), v)
-  pub remove-acts : (g s : ℕ) (m : Membership) → FitsCommand (remove g s m) → gateOf f e (remove g s m) ≡ 0
+  pub remove-acts : (g s : ℕ) (m : Membership) → CommandInRange (remove g s m) → gateOf f e (remove g s m) ≡ 0
       → sees (command f e (remove g s m)) t
       ≡ cond (has (keyIs (wordOf (sceneKey f e g s))) (v .entries))
       (done true, invalidated (Scene (sceneKey f e g s)) (entriesSet (takeOut (keyIs (wordOf (sceneKey f e g s))) (v .entries)) v))
       (refuse notFound, v)
-  pub removeAll-acts : (g : ℕ) (m : Membership) → FitsCommand (removeAll g m) → gateOf f e (removeAll g m) ≡ 0
+  pub removeAll-acts : (g : ℕ) (m : Membership) → CommandInRange (removeAll g m) → gateOf f e (removeAll g m) ≡ 0
       → sees (command f e (removeAll g m)) t
       ≡ cond (has (holds (groupKeys f e g)) (v .entries))
       (done true, invalidated (Group (groupKey f e g)) (entriesSet (keep (λ x. not (holds (groupKeys f e g) x)) (v .entries)) v))
       (done false, v)
-  pub store-acts : (g s : ℕ) (m : Membership) (captured : List ℕ) → FitsCommand (store g s m captured) → gateOf f e (store g s m captured) ≡ 0
+  pub store-acts : (g s : ℕ) (m : Membership) (captured : List ℕ) → CommandInRange (store g s m captured) → gateOf f e (store g s m captured) ≡ 0
       → sees (command f e (store g s m captured)) t
       ≡ cond (placeFor (wordOf (sceneKey f e g s)) v) (
         done true,
@@ -50,17 +51,17 @@ pub record CommandLaws (f e : ℕ) (t : Table) (v : View) : Type 0 where
             (written (entryOf (sceneKey f e g s) (timeOf (find (keyIs (wordOf (sceneKey f e g s))) (v .entries))) (captured ++ (endOfContainer ∷ []))) v)),
       )
       (refuse insufficientSpace, v)
-  pub recall-acts : (g s : ℕ) (m : Membership) (o : Transition) (a : Applied) → FitsCommand (recall g s m o a) → gateOf f e (recall g s m o a) ≡ 0
+  pub recall-acts : (g s : ℕ) (m : Membership) (o : Transition) (a : Applied) → CommandInRange (recall g s m o a) → gateOf f e (recall g s m o a) ≡ 0
       → sees (command f e (recall g s m o a)) t
       ≡ (
         recalled o a (find (keyIs (wordOf (sceneKey f e g s))) (v .entries)),
         cond (has (keyIs (wordOf (sceneKey f e g s))) (v .entries) && applied a) (remembered (sceneKey f e g s) v) v,
       )
-  pub copy-acts : (mode g s h r : ℕ) (m n : Membership) → FitsCommand (copy mode g s h r m n) → gateOf f e (copy mode g s h r m n) ≡ 0
+  pub copy-acts : (mode g s h r : ℕ) (m n : Membership) → CommandInRange (copy mode g s h r m n) → gateOf f e (copy mode g s h r m n) ≡ 0
       → sees (command f e (copy mode g s h r m n)) t
       ≡ cond (eqb (roomIn f v) 0) (refuse insufficientSpace, v)
       (copyOut f (scopeOf f e mode h r) (map (target f e mode h r) (sources f e mode g s v)) v)
-  pub membership-acts : (g : ℕ) (m : Membership) (buffer : List ℕ) → FitsCommand (membership g m buffer) → gateOf f e (membership g m buffer) ≡ 0
+  pub membership-acts : (g : ℕ) (m : Membership) (buffer : List ℕ) → CommandInRange (membership g m buffer) → gateOf f e (membership g m buffer) ≡ 0
       → sees (command f e (membership g m buffer)) t
       ≡ cond (ltb (length buffer) (length (idsIn f e g v))) (refuse listTooLong, v)
       (record { status = success; save = false; values = min (roomIn f v) maxShown ∷ []; ids = idsIn f e g v }, v)
@@ -88,4 +89,4 @@ pub record EventLaws (t : Table) (v : View) : Type 0 where
 pub record Laws : Type 0 where
   pub commands : (f e : ℕ) (t : Table) → sound t ≡ true → f < 2 ^ 8 → e < 2 ^ 16 → CommandLaws f e t (viewOf t)
   pub events : (t : Table) → sound t ≡ true → EventLaws t (viewOf t)
-  pub step-sound : (c : Call) (t : Table) → Fits c → sound t ≡ true → sound (next c t) ≡ true
+  pub step-sound : (c : Call) (t : Table) → InRange c → sound t ≡ true → sound (next c t) ≡ true

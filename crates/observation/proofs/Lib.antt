@@ -1,3 +1,5 @@
+-- Vocabulary that no statement needs: `Lists` (how a list changes), `Lookups` (how an entry or a record is found), `Changes` (a table's view
+-- as one record, and what each change does to it).
 -- Views: `Counts` has the laws of the lists under tests, `Firsts` those at a position where a test holds first or nowhere, `Positions`
 -- those of the lists by their elements. `Views` says what is read of a table, `Sound` what a sound table has, `Entries` and `Records`
 -- what each change leaves of the views, and that the table stays sound.
@@ -7,8 +9,11 @@
 -- requests that are let through. `Respond` and `RespondCopy` say that commands keep both, `Probes` what tells two views apart. `Reach`, `Forward` and
 -- `Backward` bring this to tables, and `Theorem` has the theorems.
 -- What follows: `Readings` has counterexamples to nearby readings, `Removal` what a fabric's removal leaves, `Numbers` the numbers that
--- each call can answer, `Unsound` what a table that is not sound is answered, `FieldBytes` whose fields an answered position has,
--- `Buffers` what a scene list buffer counts for.
+-- each call can answer, `Unsound` what a table that is not sound is answered, `Refusals` that a refusal is its number alone, `Midway` what
+-- a copy that ran out leaves, `FieldBytes` whose fields an answered position has, `Buffers` what a scene list buffer counts for.
+pub mod Lists
+pub mod Lookups
+pub mod Changes
 pub mod Counts
 pub mod Firsts
 pub mod Positions
@@ -39,9 +44,11 @@ pub mod Reach
 pub mod Forward
 pub mod Backward
 pub mod Theorem
-pub mod Readings
-pub mod Removal
 pub mod Numbers
 pub mod Unsound
+pub mod Refusals
+pub mod Midway
+pub mod Readings
+pub mod Removal
 pub mod FieldBytes
 pub mod Buffers

@@ -8,7 +8,8 @@ use native.Mathlib.Omega.{arith}
 use lib.Dec.{ltb}
 use lib.ListN.{length}
 use borrow.Author.Tests.{lt-ltb}
-use Rattle.observation.specs.Lists.{bit, found, count, find, has, keep}
+use Rattle.observation.specs.Lists.{bit, count, find, keep}
+use Rattle.observation.proofs.Lists.{found, has}
 
 module _ {A : Type 0} where
   pub keep-ext : (p q : A → Bool) → ((x : A) → p x ≡ q x) → (xs : List A) → keep p xs ≡ keep q xs

@@ -2,11 +2,11 @@
 use Prim.Native.Nat.{ℕ, zero, suc, _+_}
 use mathlib.Core.Path.{_≡_, refl}
 use mathlib.Core.Bool.{Bool, true, false, cond, _||_}
-use mathlib.Core.List.{List, [], _∷_, _++_, map}
+use mathlib.Core.List.{List, [], _∷_, map}
 use lib.Dec.{eqb, ltb}
 use lib.ListN.{length, getD}
 use Rattle.words.specs.Constants.{success, invalidCommand, constraintError, insufficientSpace, notFound, noFabric, membershipFailed, captureTooLong, applyFailed, singleElement, unsound, badPair, listTooLong, notScenable, clusterUnknown, globalScene, reservedScene, maxTime, maxFields}
-use Rattle.words.specs.Words.{wordOf, groupKeys, fabricKeys, endpointKeys}
+use Rattle.words.specs.Words.{wordOf, groupKeys, endpointKeys}
 use Rattle.words.specs.declared.Found.{Found}
 use Rattle.words.specs.declared.Found.the-variants.{At, Nothing}
 use Rattle.words.specs.declared.SceneKey.{SceneKey}
@@ -28,7 +28,7 @@ use Rattle.scenes.specs.Change.{findScene, Upserted, upsertAt, upsert, retainOu
 use Rattle.scenes.specs.Answer.{Result, refused, refusalOf, guarded}
 use Rattle.scenes.specs.Commands.{addScene, stored, storeCaptured, storeScene, removeFound, removeScene, removedAll, removeAllScenes, recallFound, recallScene}
 use Rattle.scenes.specs.declared.Applied.the-variants as applied
-use Rattle.scenes.specs.Copy.{Copied, copiedOf, copyTo, copyEntry, copyFound, copySingle, copyWalk, isSource, keyIn, sourceGroup, targetGroup, sourceKey, targetKey, copySources, copied, copyScenesInner, copyScene}
+use Rattle.scenes.specs.Copy.{Copied, copyTo, copyEntry, copyFound, copySingle, copyWalk, isSource, keyIn, sourceGroup, targetGroup, sourceKey, targetKey, copySources, copied, copyScenesInner, copyScene}
 use Rattle.scenes.specs.Reads.{readAt, recallLookup, viewScene, Listed, sceneIds, listIds, getSceneMembership, infoRow, readFabricSceneInfo}
 use Rattle.scenes.specs.Lifecycle.{scenableAttributeChanged, removedFabric, removeForFabric, factoryReset, startup, failSafe}
 use Rattle.observation.specs.Numbers.{Among}

@@ -8,7 +8,8 @@ use mathlib.Core.List.{List, [], _∷_, List·Permᴰ, List·Permᴰ·nil, List�
 use lib.Dec.{eqb}
 use borrow.Author.Tests.{eqb-true, eq-eqb}
 use Rattle.slots.specs.Slots.{SceneEntry}
-use Rattle.observation.specs.Lists.{bit, count, Often}
+use Rattle.observation.specs.Lists.{bit, count}
+use Rattle.observation.proofs.Lists.{Often}
 use Rattle.observation.proofs.Simulation.{sameEntry, same-entry, entry-same}
 
 module _ {A : Type 0} where

@@ -15,7 +15,8 @@ use borrow.Author.Tests.{eqb-true, eqb-false}
 use Rattle.words.specs.Below.{positions, anyBelow, countBelow, keptBelow, firstBelow}
 use Rattle.words.specs.declared.Found.the-variants.{At, Nothing}
 use Rattle.words.proofs.Below.{first-under, first-before, first-nothing}
-use Rattle.observation.specs.Lists.{bit, found, count, has, keep}
+use Rattle.observation.specs.Lists.{bit, count, keep}
+use Rattle.observation.proofs.Lists.{found, has}
 use Rattle.observation.proofs.Counts.{count-append, keep-append, has-append}
 use Rattle.observation.proofs.Firsts.{First, Nowhere}
 

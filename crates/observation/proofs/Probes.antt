@@ -13,11 +13,12 @@ use Rattle.words.specs.Words.{wordOf, fabricOf, endpointOf, groupOf, sceneOf, k
 use Rattle.words.proofs.Tests.{and-false}
 use Rattle.slots.specs.Slots.{SceneEntry}
 use Rattle.requests.specs.Requests.{reserved}
-use Rattle.observation.specs.Lists.{bit, found, count, find, keep, takeOut}
-use Rattle.observation.specs.Views.{keyIs, holds}
+use Rattle.observation.specs.Lists.{bit, count, find, keep}
 use Rattle.observation.specs.Calls.{Answer, sceneKey}
-use Rattle.observation.specs.Equivalence.{Same, mine, ofFabric}
-use Rattle.observation.specs.Changes.{View, currentIn, roomIn}
+use Rattle.observation.specs.Equivalence.{keyIs, Same, mine, ofFabric}
+use Rattle.observation.proofs.Lists.{found, takeOut}
+use Rattle.observation.proofs.Lookups.{holds}
+use Rattle.observation.proofs.Changes.{View, currentIn, roomIn}
 use Rattle.observation.proofs.Effects.{viewed, shown, row, infoOut}
 use Rattle.observation.proofs.Counts.{count-ext, count-le, opt, count-takeOut, count-keep, length-count, find-passes, find-counts, find-none, none-find}
 use Rattle.observation.proofs.Choices.{cond-elim, or-none, bit-zero}

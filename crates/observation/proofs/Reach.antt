@@ -9,9 +9,9 @@ use Rattle.words.specs.Below.{positions}
 use Rattle.records.specs.declared.Scope.the-variants.{Endpoint}
 use Rattle.scenes.specs.Table.{Table, entriesIn, recordsIn}
 use Rattle.scenes.specs.Sound.{sound}
-use Rattle.observation.specs.Calls.{Command, add, view, remove, removeAll, store, recall, copy, membership, info, Call, command, notice, removal, reset, start, failSafeEvent, next, FitsCommand, Fits}
+use Rattle.observation.specs.Calls.{Command, add, view, remove, removeAll, store, recall, copy, membership, info, Call, command, notice, removal, reset, start, failSafeEvent, next, CommandInRange, InRange}
 use Rattle.observation.specs.Equivalence.{Reached, empty, after}
-use Rattle.observation.specs.Changes.{View, viewOf}
+use Rattle.observation.proofs.Changes.{View, viewOf}
 use Rattle.observation.proofs.Effects.{Seen, sees, gateOf}
 use Rattle.observation.proofs.Laws.{Laws}
 use Rattle.observation.proofs.Sound.{to-each}
@@ -31,7 +31,7 @@ lawful-by : {f e : ℕ} {c : Command} {r : View → Seen} → Responds f c r →
 lawful-by {f} {e} {c} {r} h l = record { makes = r; law = l; responds = h }
 
 module _ (laws : Laws) where
-  let-through : (f e : ℕ) (c : Command) → f < 2 ^ 8 → e < 2 ^ 16 → FitsCommand c → gateOf f e c ≡ 0 → Lawful f e c
+  let-through : (f e : ℕ) (c : Command) → f < 2 ^ 8 → e < 2 ^ 16 → CommandInRange c → gateOf f e c ≡ 0 → Lawful f e c
   let-through f e (add g s time m pairs ext) hf he hc z =
       lawful-by (add-responds f e hf he g s time m pairs ext hc z) (λ t S. laws .commands f e t S hf he .add-acts g s time m pairs ext hc z)
   let-through f e (view g s m) hf he hc z = lawful-by (view-responds f e hf he g s m hc) (λ t S. laws .commands f e t S hf he .view-acts g s m hc z)
@@ -47,7 +47,7 @@ module _ (laws : Laws) where
       lawful-by (membership-responds f e hf he g m buffer hc) (λ t S. laws .commands f e t S hf he .membership-acts g m buffer hc z)
   let-through f e (info single) hf he hc z = lawful-by (info-responds f e hf he single) (λ t S. laws .commands f e t S hf he .info-acts single z)
 
-  pub lawful : (f e : ℕ) (c : Command) → f < 2 ^ 8 → e < 2 ^ 16 → FitsCommand c → Lawful f e c
+  pub lawful : (f e : ℕ) (c : Command) → f < 2 ^ 8 → e < 2 ^ 16 → CommandInRange c → Lawful f e c
   lawful f e c hf he hc =
       (elim (eqb (gateOf f e c) 0) as (λ b. eqb (gateOf f e c) 0 ≡ b → Lawful f e c) [
         | true ↦ λ z. let-through f e c hf he hc (eqb-true (gateOf f e c) 0 z)
@@ -62,7 +62,7 @@ pub record Standing (t : Table) : Type 0 where
   pub inv : Inv (viewOf t)
 
 module _ (laws : Laws) where
-  step-inv : (c : Call) (t : Table) → Fits c → Standing t → Inv (sees c t .1)
+  step-inv : (c : Call) (t : Table) → InRange c → Standing t → Inv (sees c t .1)
   step-inv (command f e c) t h s =
       let l = lawful laws f e c (h .0) (h .1) (h .2) in
       subst (λ (o : Seen). Inv (o .1)) (sym (l .law t (s .intact))) (l .responds .leaves (viewOf t) (s .inv))
@@ -77,7 +77,7 @@ module _ (laws : Laws) where
   step-inv start t h s = subst (λ (o : Seen). Inv (o .1)) (sym (laws .events t (s .intact) .start-acts)) (empty-inv _ _ (s .inv .small))
   step-inv failSafeEvent t h s = subst (λ (o : Seen). Inv (o .1)) (sym (laws .events t (s .intact) .failSafe-acts)) (s .inv)
 
-  pub step-standing : (c : Call) (t : Table) → Fits c → Standing t → Standing (next c t)
+  pub step-standing : (c : Call) (t : Table) → InRange c → Standing t → Standing (next c t)
   step-standing c t h s = record { intact = laws .step-sound c t h (s .intact); inv = step-inv c t h s }
 
   empty-standing : (t : Table) → sound t ≡ true → t .state .entries ≡ 0 → t .state .recorded ≡ 0 → Standing t

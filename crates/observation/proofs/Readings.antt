@@ -1,37 +1,31 @@
--- The theorem says what it should: tables that differ and are equivalent for a fabric, tables that are not, and for each nearby
--- reading of the four matters, or of the runs, a counterexample. Assumes nothing.
-use Prim.Native.Nat.{ℕ, _+_, _*_, _^_, _<_, _≤_}
+-- The theorems say what they should: tables that differ and are equivalent for a fabric, tables that are not, and for each nearby
+-- reading of the four matters, of the runs, or of what a refusal leaves, a counterexample. Assumes nothing.
+use Prim.Native.Nat.{ℕ, _+_, _*_, _^_, _<_}
 use native.Mathlib.Omega.{arith}
 use mathlib.Core.Path.{_≡_, refl, ap}
-use mathlib.Core.Bool.{Bool, true, false}
-use mathlib.Core.List.{List, [], _∷_, List·Permᴰ, List·Permᴰ·nil, List·Permᴰ·cons, List·Permᴰ·swap}
-use mathlib.Core.Option.{Option, none, some, Option·map, Option·some-injective}
+use mathlib.Core.Bool.{true}
+use mathlib.Core.List.{List, [], _∷_, List·Permᴰ, List·Permᴰ·nil, List·Permᴰ·swap}
+use mathlib.Core.Option.{Option, none, Option·map, Option·some-injective}
 use lib.ListN.{replicate}
-use Rattle.words.specs.Constants.{stride}
-use Rattle.words.specs.Conditions.{allOf}
-use Rattle.words.specs.Words.{within, endpointOf, keyOfRecord}
-use Rattle.words.specs.Below.{positions, everyBelow, anyBelow, countBelow, firstBelow, keptBelow, orElse}
-use Rattle.slots.specs.Slots.{firstKey, countKeys, keysSound, lengthsSound, overlay, putSlot, copySlot, laid, scenesInside}
-use Rattle.records.specs.Records.{recordsSound, firstOwned, rememberAt, remember, inScope, anyHit, mapFirst, invalidated}
+use Rattle.words.specs.Constants.{stride, success}
+use Rattle.words.specs.Words.{keyOf, endpointOf, keyOfRecord}
 use Rattle.requests.specs.declared.Membership.the-variants.{Yes}
-use Rattle.requests.specs.Requests.{orNext, firstRefusal, memberGate, pairsGate, addGate, storeGate, lookupGate, groupGate, copyGate}
-use Rattle.scenes.specs.Table.{Table, tableOf, newState, entriesIn, recordsIn}
-use Rattle.scenes.specs.Sound.{fits, sound}
-use Rattle.scenes.specs.Capacity.{roomFor, remaining}
-use Rattle.scenes.specs.Current.{rememberCurrent, invalidateCurrent}
-use Rattle.scenes.specs.Change.{putAt, append, upsertAt, upsert, swapRemove}
-use Rattle.scenes.specs.Answer.{refusalOf, guarded}
-use Rattle.scenes.specs.Commands.{addScene, stored, storeCaptured, storeScene, removeFound, removeScene}
-use Rattle.scenes.specs.Copy.{copyTo, copyEntry, copyWalk, copySources, copied, copyScenesInner, copyScene}
-use Rattle.scenes.specs.Reads.{readAt, viewScene, fieldBytes, listIds, getSceneMembership}
+use Rattle.scenes.specs.Table.{Table, tableOf, newState, emptyTable, entriesIn, withEntryCount}
+use Rattle.scenes.specs.Sound.{sound}
+use Rattle.scenes.specs.Answer.{Result}
+use Rattle.scenes.specs.Copy.{copyScene}
+use Rattle.scenes.proofs.Computing.{soundness, computing}
 use Rattle.observation.specs.Lists.{bit, count}
-use Rattle.observation.specs.Calls.{Command, add, view, remove, store, copy, membership, Call, command, does, step, answer, next, Fits}
-use Rattle.observation.proofs.Theorem.{demand3}
+use Rattle.observation.specs.Calls.{add, view, remove, store, copy, membership, Call, command, copyRequest, does, step, answer, next}
+use Rattle.observation.specs.Refusals as refusals
 use Rattle.observation.specs.Equivalence.{Reached, empty, after, Equivalent, Agree, SeenRecord, seen, free, mine, scenesOf, currentOf, recordFits, own}
+use Rattle.observation.proofs.Theorem.{demand3}
+use Rattle.observation.proofs.Refusals.{left}
 
--- an empty table of n places
-abbrev blank : ℕ → Table
-blank n = tableOf (newState n) (replicate n 0) (replicate n 0) (replicate (n * stride) 0) (replicate n 0)
+-- a call of these runs computes too
+running : Unit {0}
+unfolding step does computing
+running = tt
 
 -- a fabric adds, stores or removes a scene of group 0 on an endpoint
 abbrev adds : ℕ → ℕ → ℕ → Call
@@ -51,54 +45,54 @@ bare r = r .group ∷ r .scene ∷ bit (r .valid) ∷ []
 
 -- a record of scene 9 of an endpoint, no longer valid
 abbrev invalidOn : ℕ → Table
-invalidOn e = next (removes 1 e 9) (next (stores 1 e 9) (blank 2))
+invalidOn e = next (removes 1 e 9) (next (stores 1 e 9) (emptyTable 2))
 
 -- scene 9 stored on two endpoints: the record is of the second
 abbrev validOn : ℕ → ℕ → Table
-validOn d e = next (stores 1 e 9) (next (stores 1 d 9) (blank 2))
+validOn d e = next (stores 1 e 9) (next (stores 1 d 9) (emptyTable 2))
 
 -- another fabric fills the only place, with or without a record
 abbrev filled : Table
-filled = next (adds 2 1 3) (blank 1)
+filled = next (adds 2 1 3) (emptyTable 1)
 
 abbrev filledRecorded : Table
-filledRecorded = next (stores 2 1 3) (blank 1)
+filledRecorded = next (stores 2 1 3) (emptyTable 1)
 
 -- another fabric's record alone takes the only place for records
 abbrev recordedOnly : Table
-recordedOnly = next (removes 2 1 3) (next (stores 2 1 3) (blank 1))
+recordedOnly = next (removes 2 1 3) (next (stores 2 1 3) (emptyTable 1))
 
 -- another fabric takes one of two places
 abbrev oneTaken : Table
-oneTaken = next (adds 2 1 3) (blank 2)
+oneTaken = next (adds 2 1 3) (emptyTable 2)
 
 -- two scenes in either order
 abbrev two : ℕ → ℕ → Table
-two a b = next (adds 1 1 b) (next (adds 1 1 a) (blank 2))
+two a b = next (adds 1 1 b) (next (adds 1 1 a) (emptyTable 2))
 
 -- scenes 1 and 2 of group 1, in either order, in a table of seven places
 abbrev grouped : ℕ → ℕ → Table
-grouped a b = next (command 1 1 (add 1 b 5 Yes [] [])) (next (command 1 1 (add 1 a 5 Yes [] [])) (blank 7))
+grouped a b = next (command 1 1 (add 1 b 5 Yes [] [])) (next (command 1 1 (add 1 a 5 Yes [] [])) (emptyTable 7))
 
 -- the same key twice, which no call leaves
 abbrev repeated : ℕ → ℕ → Table
 repeated a b =
-    tableOf (record { size = 2; entries = 2; recorded = 0; dataver = 0 }) (0x10001000001 ∷ 0x10001000001 ∷ []) (a ∷ b ∷ []) (replicate (2 * stride) 0) (0 ∷ 0 ∷ [])
+    tableOf (withEntryCount 2 (newState 2)) (keyOf 1 1 0 1 ∷ keyOf 1 1 0 1 ∷ []) (a ∷ b ∷ []) (replicate (2 * stride) 0) (0 ∷ 0 ∷ [])
 
 -- ---- they are reached
 
-blank-reached : (n : ℕ) → sound (blank n) ≡ true → Reached (blank n)
-blank-reached n s = empty (blank n) s refl refl
+empty-reached : (n : ℕ) → sound (emptyTable n) ≡ true → Reached (emptyTable n)
+empty-reached n s = empty (emptyTable n) s refl refl
 
-blanks : (sound (blank 1) ≡ true) × (sound (blank 2) ≡ true) × (sound (blank 7) ≡ true)
-unfolding sound fits allOf keysSound lengthsSound recordsSound everyBelow
-blanks = (refl, refl, refl)
+empty-sound : (sound (emptyTable 1) ≡ true) × (sound (emptyTable 2) ≡ true) × (sound (emptyTable 7) ≡ true)
+unfolding soundness
+empty-sound = (refl, refl, refl)
 
-one-reached : Reached (blank 1)
-one-reached = blank-reached 1 (blanks .0)
+one-reached : Reached (emptyTable 1)
+one-reached = empty-reached 1 (empty-sound .0)
 
-two-reached : Reached (blank 2)
-two-reached = blank-reached 2 (blanks .1)
+two-reached : Reached (emptyTable 2)
+two-reached = empty-reached 2 (empty-sound .1)
 
 added : (f e g s : ℕ) {t : Table} → f < 2 ^ 8 → e < 2 ^ 16 → g < 2 ^ 16 → s < 2 ^ 8 → Reached t → Reached (next (command f e (add g s 5 Yes [] [])) t)
 added f e g s hf he hg hs r = after (command f e (add g s 5 Yes [] [])) (hf, he, (hg, hs, omega arith, refl, refl)) r
@@ -132,28 +126,28 @@ both-reached a b ha hb = added 1 1 0 b (omega arith) (omega arith) (omega arith)
 
 grouped-reached : (a b : ℕ) → a < 2 ^ 8 → b < 2 ^ 8 → Reached (grouped a b)
 grouped-reached a b ha hb =
-    added 1 1 1 b (omega arith) (omega arith) (omega arith) hb (added 1 1 1 a (omega arith) (omega arith) (omega arith) ha (blank-reached 7 (blanks .2)))
+    added 1 1 1 b (omega arith) (omega arith) (omega arith) hb (added 1 1 1 a (omega arith) (omega arith) (omega arith) ha (empty-reached 7 (empty-sound .2)))
 
 -- ---- what they agree on
 
 invalid-agree : Agree 1 (invalidOn 0) (invalidOn 1)
-unfolding does step guarded refusalOf sound fits allOf keysSound lengthsSound recordsSound everyBelow addScene addGate pairsGate storeScene storeGate firstRefusal orNext memberGate storeCaptured stored upsert upsertAt firstKey firstBelow orElse append putAt putSlot overlay invalidateCurrent anyHit anyBelow invalidated mapFirst rememberCurrent remember rememberAt firstOwned removeScene lookupGate removeFound swapRemove copySlot inScope entriesIn recordsIn positions
+unfolding running
 invalid-agree = record { places = refl; scenes = List·Permᴰ·nil; recorded = refl; oneMore = λ n h. refl }
 
 filled-agree : Agree 1 filled filledRecorded
-unfolding does step guarded refusalOf sound fits allOf keysSound lengthsSound recordsSound everyBelow addScene addGate pairsGate storeScene storeGate firstRefusal orNext memberGate storeCaptured stored upsert upsertAt firstKey firstBelow orElse append putAt putSlot overlay invalidateCurrent anyHit anyBelow invalidated mapFirst rememberCurrent remember rememberAt firstOwned removeScene lookupGate removeFound swapRemove copySlot inScope entriesIn recordsIn positions
+unfolding running
 filled-agree = record { places = refl; scenes = List·Permᴰ·nil; recorded = refl; oneMore = λ n h. absurd (omega arith) }
 
 two-agree : Agree 1 (two 7 8) (two 8 7)
-unfolding does step guarded refusalOf sound fits allOf keysSound lengthsSound recordsSound everyBelow addScene addGate pairsGate storeScene storeGate firstRefusal orNext memberGate storeCaptured stored upsert upsertAt firstKey firstBelow orElse append putAt putSlot overlay invalidateCurrent anyHit anyBelow invalidated mapFirst rememberCurrent remember rememberAt firstOwned removeScene lookupGate removeFound swapRemove copySlot inScope entriesIn recordsIn positions
+unfolding running
 two-agree = record { places = refl; scenes = List·Permᴰ·swap refl refl; recorded = refl; oneMore = λ n h. refl }
 
 grouped-agree : Agree 1 (grouped 1 2) (grouped 2 1)
-unfolding does step guarded refusalOf sound fits allOf keysSound lengthsSound recordsSound everyBelow addScene addGate pairsGate storeScene storeGate firstRefusal orNext memberGate storeCaptured stored upsert upsertAt firstKey firstBelow orElse append putAt putSlot overlay invalidateCurrent anyHit anyBelow invalidated mapFirst rememberCurrent remember rememberAt firstOwned removeScene lookupGate removeFound swapRemove copySlot inScope entriesIn recordsIn positions
+unfolding running
 grouped-agree = record { places = refl; scenes = List·Permᴰ·swap refl refl; recorded = refl; oneMore = λ n h. refl }
 
 repeated-agree : Agree 1 (repeated 1 2) (repeated 2 1)
-unfolding does step guarded refusalOf sound fits allOf keysSound lengthsSound recordsSound everyBelow addScene addGate pairsGate storeScene storeGate firstRefusal orNext memberGate storeCaptured stored upsert upsertAt firstKey firstBelow orElse append putAt putSlot overlay invalidateCurrent anyHit anyBelow invalidated mapFirst rememberCurrent remember rememberAt firstOwned removeScene lookupGate removeFound swapRemove copySlot inScope entriesIn recordsIn positions
+unfolding running
 repeated-agree = record { places = refl; scenes = List·Permᴰ·swap refl refl; recorded = refl; oneMore = λ n h. refl }
 
 -- the tables of each pair have one size
@@ -161,11 +155,11 @@ sizes :
     (invalidOn 0 .state .size ≡ invalidOn 1 .state .size)
     × (validOn 1 0 .state .size ≡ validOn 0 1 .state .size)
     × (filled .state .size ≡ filledRecorded .state .size)
-    × (blank 1 .state .size ≡ recordedOnly .state .size)
-    × (blank 2 .state .size ≡ oneTaken .state .size)
+    × (emptyTable 1 .state .size ≡ recordedOnly .state .size)
+    × (emptyTable 2 .state .size ≡ oneTaken .state .size)
     × (two 7 8 .state .size ≡ two 8 7 .state .size)
     × (grouped 1 2 .state .size ≡ grouped 2 1 .state .size)
-unfolding does step guarded refusalOf sound fits allOf keysSound lengthsSound recordsSound everyBelow addScene addGate pairsGate storeScene storeGate firstRefusal orNext memberGate storeCaptured stored upsert upsertAt firstKey firstBelow orElse append putAt putSlot overlay invalidateCurrent anyHit anyBelow invalidated mapFirst rememberCurrent remember rememberAt firstOwned removeScene lookupGate removeFound swapRemove copySlot inScope entriesIn recordsIn positions
+unfolding running
 sizes = (refl, refl, refl, refl, refl, refl, refl)
 
 -- ---- where they differ
@@ -174,11 +168,11 @@ abbrev endpointsOf : Table → Option ℕ
 endpointsOf t = Option·map (λ w. endpointOf (keyOfRecord w)) (currentOf 1 t)
 
 invalid-endpoints : endpointsOf (invalidOn 0) ≡ endpointsOf (invalidOn 1) → ⊥
-unfolding does step guarded refusalOf sound fits allOf keysSound lengthsSound recordsSound everyBelow addScene addGate pairsGate storeScene storeGate firstRefusal orNext memberGate storeCaptured stored upsert upsertAt firstKey firstBelow orElse append putAt putSlot overlay invalidateCurrent anyHit anyBelow invalidated mapFirst rememberCurrent remember rememberAt firstOwned removeScene lookupGate removeFound swapRemove copySlot inScope entriesIn recordsIn positions
+unfolding running
 invalid-endpoints e = let z : _≡_ {A = ℕ} 0 1 = cc in omega arith
 
 valid-differ : Option·map seen (currentOf 1 (validOn 1 0)) ≡ Option·map seen (currentOf 1 (validOn 0 1)) → ⊥
-unfolding does step guarded refusalOf sound fits allOf keysSound lengthsSound recordsSound everyBelow addScene addGate pairsGate storeScene storeGate firstRefusal orNext memberGate storeCaptured stored upsert upsertAt firstKey firstBelow orElse append putAt putSlot overlay invalidateCurrent anyHit anyBelow invalidated mapFirst rememberCurrent remember rememberAt firstOwned removeScene lookupGate removeFound swapRemove copySlot inScope entriesIn recordsIn positions
+unfolding running
 valid-differ e = omega (arith, ap (λ (r : SeenRecord). r .endpoint) (Option·some-injective _ _ e))
 
 -- agreement on all but the endpoint
@@ -188,27 +182,27 @@ Else s t =
     × (Option·map (λ w. bare (seen w)) (currentOf 1 s) ≡ Option·map (λ w. bare (seen w)) (currentOf 1 t)) × (recordFits s ≡ recordFits t)
 
 valid-else : Else (validOn 1 0) (validOn 0 1)
-unfolding does step guarded refusalOf sound fits allOf keysSound lengthsSound recordsSound everyBelow addScene addGate pairsGate storeScene storeGate firstRefusal orNext memberGate storeCaptured stored upsert upsertAt firstKey firstBelow orElse append putAt putSlot overlay invalidateCurrent anyHit anyBelow invalidated mapFirst rememberCurrent remember rememberAt firstOwned removeScene lookupGate removeFound swapRemove copySlot inScope entriesIn recordsIn positions
+unfolding running
 valid-else = (refl, List·Permᴰ·swap refl refl, refl, refl)
 
-fits-differ : (currentOf 1 (blank 1) ≡ none → 0 < count (mine 1) (entriesIn (blank 1)) + free (blank 1) → recordFits (blank 1) ≡ recordFits recordedOnly) → ⊥
-unfolding does step guarded refusalOf sound fits allOf keysSound lengthsSound recordsSound everyBelow addScene addGate pairsGate storeScene storeGate firstRefusal orNext memberGate storeCaptured stored upsert upsertAt firstKey firstBelow orElse append putAt putSlot overlay invalidateCurrent anyHit anyBelow invalidated mapFirst rememberCurrent remember rememberAt firstOwned removeScene lookupGate removeFound swapRemove copySlot inScope entriesIn recordsIn positions
+fits-differ : (currentOf 1 (emptyTable 1) ≡ none → 0 < count (mine 1) (entriesIn (emptyTable 1)) + free (emptyTable 1) → recordFits (emptyTable 1) ≡ recordFits recordedOnly) → ⊥
+unfolding running
 fits-differ e = let q = e refl (omega arith) in let z : _≡_ {A = ℕ} 0 1 = cc in omega arith
 
-fits-else : (free (blank 1) ≡ free recordedOnly) × List·Permᴰ (scenesOf 1 (blank 1)) (scenesOf 1 recordedOnly) × (Option·map seen (currentOf 1 (blank 1)) ≡ Option·map seen (currentOf 1 recordedOnly))
-unfolding does step guarded refusalOf sound fits allOf keysSound lengthsSound recordsSound everyBelow addScene addGate pairsGate storeScene storeGate firstRefusal orNext memberGate storeCaptured stored upsert upsertAt firstKey firstBelow orElse append putAt putSlot overlay invalidateCurrent anyHit anyBelow invalidated mapFirst rememberCurrent remember rememberAt firstOwned removeScene lookupGate removeFound swapRemove copySlot inScope entriesIn recordsIn positions
+fits-else : (free (emptyTable 1) ≡ free recordedOnly) × List·Permᴰ (scenesOf 1 (emptyTable 1)) (scenesOf 1 recordedOnly) × (Option·map seen (currentOf 1 (emptyTable 1)) ≡ Option·map seen (currentOf 1 recordedOnly))
+unfolding running
 fits-else = (refl, List·Permᴰ·nil, refl)
 
 filled-fits : recordFits filled ≡ recordFits filledRecorded → ⊥
-unfolding does step guarded refusalOf sound fits allOf keysSound lengthsSound recordsSound everyBelow addScene addGate pairsGate storeScene storeGate firstRefusal orNext memberGate storeCaptured stored upsert upsertAt firstKey firstBelow orElse append putAt putSlot overlay invalidateCurrent anyHit anyBelow invalidated mapFirst rememberCurrent remember rememberAt firstOwned removeScene lookupGate removeFound swapRemove copySlot inScope entriesIn recordsIn positions
+unfolding running
 filled-fits e = let z : _≡_ {A = ℕ} 0 1 = cc in omega arith
 
-places-differ : free (blank 2) ≡ free oneTaken → ⊥
-unfolding does step guarded refusalOf sound fits allOf keysSound lengthsSound recordsSound everyBelow addScene addGate pairsGate storeScene storeGate firstRefusal orNext memberGate storeCaptured stored upsert upsertAt firstKey firstBelow orElse append putAt putSlot overlay invalidateCurrent anyHit anyBelow invalidated mapFirst rememberCurrent remember rememberAt firstOwned removeScene lookupGate removeFound swapRemove copySlot inScope entriesIn recordsIn positions
+places-differ : free (emptyTable 2) ≡ free oneTaken → ⊥
+unfolding running
 places-differ e = omega arith
 
-places-else : List·Permᴰ (scenesOf 1 (blank 2)) (scenesOf 1 oneTaken) × (Option·map seen (currentOf 1 (blank 2)) ≡ Option·map seen (currentOf 1 oneTaken)) × (recordFits (blank 2) ≡ recordFits oneTaken)
-unfolding does step guarded refusalOf sound fits allOf keysSound lengthsSound recordsSound everyBelow addScene addGate pairsGate storeScene storeGate firstRefusal orNext memberGate storeCaptured stored upsert upsertAt firstKey firstBelow orElse append putAt putSlot overlay invalidateCurrent anyHit anyBelow invalidated mapFirst rememberCurrent remember rememberAt firstOwned removeScene lookupGate removeFound swapRemove copySlot inScope entriesIn recordsIn positions
+places-else : List·Permᴰ (scenesOf 1 (emptyTable 2)) (scenesOf 1 oneTaken) × (Option·map seen (currentOf 1 (emptyTable 2)) ≡ Option·map seen (currentOf 1 oneTaken)) × (recordFits (emptyTable 2) ≡ recordFits oneTaken)
+unfolding running
 places-else = (List·Permᴰ·nil, refl, refl)
 
 -- membership lists the two scenes in their order
@@ -216,7 +210,7 @@ abbrev listing : Call
 listing = command 1 1 (membership 0 Yes (0 ∷ 0 ∷ []))
 
 ids-differ : answer listing (two 7 8) .ids ≡ answer listing (two 8 7) .ids → ⊥
-unfolding does step guarded refusalOf sound fits allOf keysSound lengthsSound recordsSound everyBelow addScene addGate pairsGate storeScene storeGate firstRefusal orNext memberGate storeCaptured stored upsert upsertAt firstKey firstBelow orElse append putAt putSlot overlay invalidateCurrent anyHit anyBelow invalidated mapFirst rememberCurrent remember rememberAt firstOwned removeScene lookupGate removeFound swapRemove copySlot inScope entriesIn recordsIn positions getSceneMembership groupGate listIds laid scenesInside keptBelow remaining roomFor countKeys countBelow within
+unfolding running
 ids-differ e = let z : _≡_ {A = ℕ} 7 8 = cc in omega arith
 
 -- a whole-group copy that runs out is answered alike and leaves another copy: a run that went on would tell
@@ -224,23 +218,31 @@ abbrev copying : Call
 copying = command 1 1 (copy 1 1 0 2 0 Yes Yes)
 
 copies-alike : (answer copying (grouped 1 2) .status ≡ 0x89) × (answer copying (grouped 2 1) .status ≡ 0x89)
-unfolding does step guarded refusalOf sound fits allOf keysSound lengthsSound recordsSound everyBelow addScene addGate pairsGate storeScene storeGate firstRefusal orNext memberGate storeCaptured stored upsert upsertAt firstKey firstBelow orElse append putAt putSlot overlay invalidateCurrent anyHit anyBelow invalidated mapFirst rememberCurrent remember rememberAt firstOwned removeScene lookupGate removeFound swapRemove copySlot inScope entriesIn recordsIn positions copyScene copyGate copyScenesInner copied copySources copyWalk copyEntry copyTo roomFor countKeys countBelow within
+unfolding running
 copies-alike = (refl, refl)
 
 abbrev viewing : Call
 viewing = command 1 1 (view 2 1 Yes)
 
 copies-differ : answer viewing (next copying (grouped 1 2)) .status ≡ answer viewing (next copying (grouped 2 1)) .status → ⊥
-unfolding does step guarded refusalOf sound fits allOf keysSound lengthsSound recordsSound everyBelow addScene addGate pairsGate storeScene storeGate firstRefusal orNext memberGate storeCaptured stored upsert upsertAt firstKey firstBelow orElse append putAt putSlot overlay invalidateCurrent anyHit anyBelow invalidated mapFirst rememberCurrent remember rememberAt firstOwned removeScene lookupGate removeFound swapRemove copySlot inScope entriesIn recordsIn positions copyScene copyGate copyScenesInner copied copySources copyWalk copyEntry copyTo roomFor countKeys countBelow within viewScene readAt fieldBytes
+unfolding running
 copies-differ e = omega arith
+
+-- there were two entries before it, and there are three then
+abbrev copied-midway : Result
+copied-midway = copyScene (copyRequest 1 1 1 1 0 2 0) Yes Yes (grouped 1 2)
+
+copy-changes : (copied-midway .status ≡ 0x89) × (copied-midway .table .state .entries ≡ 3) × (grouped 1 2 .state .entries ≡ 2)
+unfolding running
+copy-changes = (refl, refl, refl)
 
 -- tables that were not reached: with a repeated key they may agree and still not be equivalent
 repeated-sound : (sound (repeated 1 2) ≡ true) × (sound (repeated 2 1) ≡ true)
-unfolding sound fits allOf keysSound lengthsSound recordsSound everyBelow
+unfolding soundness
 repeated-sound = (refl, refl)
 
 repeated-differ : answer (command 1 1 (view 0 1 Yes)) (repeated 1 2) .values ≡ answer (command 1 1 (view 0 1 Yes)) (repeated 2 1) .values → ⊥
-unfolding does step guarded refusalOf sound fits allOf keysSound lengthsSound recordsSound everyBelow addScene addGate pairsGate storeScene storeGate firstRefusal orNext memberGate storeCaptured stored upsert upsertAt firstKey firstBelow orElse append putAt putSlot overlay invalidateCurrent anyHit anyBelow invalidated mapFirst rememberCurrent remember rememberAt firstOwned removeScene lookupGate removeFound swapRemove copySlot inScope entriesIn recordsIn positions viewScene readAt fieldBytes
+unfolding running
 repeated-differ e = let z : _≡_ {A = ℕ} 1 2 = cc in omega arith
 
 -- ---- the readings, each with its counterexample
@@ -267,20 +269,20 @@ fit-not-always = (same filled filledRecorded filled-reached recorded-reached (si
 
 -- "whether one more record fits is compared never": a fabric that has a place sees it
 pub fit-not-never :
-    (free (blank 1) ≡ free recordedOnly) × List·Permᴰ (scenesOf 1 (blank 1)) (scenesOf 1 recordedOnly)
-    × (Option·map seen (currentOf 1 (blank 1)) ≡ Option·map seen (currentOf 1 recordedOnly))
-    × (Equivalent 1 (blank 1) recordedOnly → ⊥)
+    (free (emptyTable 1) ≡ free recordedOnly) × List·Permᴰ (scenesOf 1 (emptyTable 1)) (scenesOf 1 recordedOnly)
+    × (Option·map seen (currentOf 1 (emptyTable 1)) ≡ Option·map seen (currentOf 1 recordedOnly))
+    × (Equivalent 1 (emptyTable 1) recordedOnly → ⊥)
 fit-not-never =
-    (fits-else .0, fits-else .1, fits-else .2, (λ e. fits-differ (told (blank 1) recordedOnly one-reached only-reached (sizes .3) e .oneMore)))
+    (fits-else .0, fits-else .1, fits-else .2, (λ e. fits-differ (told (emptyTable 1) recordedOnly one-reached only-reached (sizes .3) e .oneMore)))
 
 -- "free places are left out"
 pub places-not-out :
-    List·Permᴰ (scenesOf 1 (blank 2)) (scenesOf 1 oneTaken)
-    × (Option·map seen (currentOf 1 (blank 2)) ≡ Option·map seen (currentOf 1 oneTaken))
-    × (recordFits (blank 2) ≡ recordFits oneTaken)
-    × (Equivalent 1 (blank 2) oneTaken → ⊥)
+    List·Permᴰ (scenesOf 1 (emptyTable 2)) (scenesOf 1 oneTaken)
+    × (Option·map seen (currentOf 1 (emptyTable 2)) ≡ Option·map seen (currentOf 1 oneTaken))
+    × (recordFits (emptyTable 2) ≡ recordFits oneTaken)
+    × (Equivalent 1 (emptyTable 2) oneTaken → ⊥)
 places-not-out =
-    (places-else .0, places-else .1, places-else .2, (λ e. places-differ (told (blank 2) oneTaken two-reached taken-reached (sizes .4) e .places)))
+    (places-else .0, places-else .1, places-else .2, (λ e. places-differ (told (emptyTable 2) oneTaken two-reached taken-reached (sizes .4) e .places)))
 
 -- "scene lists compare in order": two tables are equivalent and list their scenes in another order
 pub lists-not-in-order : Equivalent 1 (two 7 8) (two 8 7) × (answer listing (two 7 8) .ids ≡ answer listing (two 8 7) .ids → ⊥)
@@ -308,3 +310,12 @@ reached-not-idle = (
   repeated-agree,
   (λ e. repeated-differ (e (own 1 (view 0 1 Yes) ∷ []) ((omega arith, omega arith, (omega arith, omega arith)), tt) .0 .values)),
 )
+
+-- "every refusal changes nothing", without an exception: a whole-group copy that runs out midway is refused and has changed the table
+pub exception-not-idle : refusals.WithoutException → ⊥
+exception-not-idle every =
+    let refusal : copied-midway .status ≡ success → ⊥ = λ z. omega (arith, copy-changes .0) in
+    let c : refusals.Outward = refusals.copy (copyRequest 1 1 1 1 0 2 0) Yes Yes in
+    let same : copied-midway .table .state .entries ≡ grouped 1 2 .state .entries =
+    ap (λ (a : refusals.Answered). left (grouped 1 2) a .state .entries) (every c (grouped 1 2) refusal) in
+    omega (arith, copy-changes .1, copy-changes .2)

@@ -19,8 +19,9 @@ use Rattle.records.proofs.View.{sound-cleared, inUse, remember-length, remember
 use Rattle.scenes.specs.Table.{Table, entriesIn, recordsIn, withCurrent, withEntryCount, withRecordCount, bumpIf}
 use Rattle.scenes.specs.Sound.{sound}
 use Rattle.scenes.specs.Current.{rememberCurrent, invalidateCurrent}
-use Rattle.observation.specs.Lists.{bit, count, has, keep, put}
-use Rattle.observation.specs.Views.{ownedBy, isAt, withRecord}
+use Rattle.observation.specs.Lists.{bit, count, keep}
+use Rattle.observation.proofs.Lists.{has, put}
+use Rattle.observation.proofs.Lookups.{ownedBy, isAt, withRecord}
 use Rattle.observation.proofs.Counts.{both, count-le, count-map, count-put, count-keep, keep-map}
 use Rattle.observation.proofs.Firsts.{First, Nowhere, put-first, put-nowhere, count-nowhere, nowhere-count}
 use Rattle.observation.proofs.Positions.{keep-positions, view-first, view-nowhere}
@@ -78,10 +79,6 @@ module _ (t : Table) (scope : Scope) where
   unfolding entriesIn invalidateCurrent
   invalidated-only = record { size = refl; count = refl; slots = refl; entries = refl }
 
-  pub invalidated-count : withCurrent (invalidateCurrent scope) t .state .recorded ≡ t .state .recorded
-  unfolding invalidateCurrent
-  invalidated-count = refl
-
   pub invalidated-dataver : sound t ≡ true
       → withCurrent (invalidateCurrent scope) t .state .dataver ≡ cond (has (hits scope) (recordsIn t)) ((t .state .dataver + 1) % 2 ^ 32) (t .state .dataver)
   unfolding invalidateCurrent
@@ -138,14 +135,6 @@ module _ (t : Table) (sd : sound t ≡ true) (key : SceneKey) where
 
   room-left : remember key (t .state .size) (recordsOf (t .state .recorded) (t .records)) .count ≤ t .state .size
   room-left = let s = to-each t sd in remember-count key (t .state .size) (recordsOf (t .state .recorded) (t .records)) (s .recorded)
-
-  pub remembered-count : withCurrent (rememberCurrent key) t .state .recorded ≡ length (withRecord key t)
-  unfolding recordsIn rememberCurrent
-  remembered-count =
-      let s = to-each t sd in
-      let r = remember key (t .state .size) (recordsOf (t .state .recorded) (t .records)) in
-      sym (length-take-le (r .count) (r .words) (omega (arith, room-left, remember-length key (t .state .size) (recordsOf (t .state .recorded) (t .records)))))
-      ∙ ap length remembered-records
 
   pub remembered-sound : recordSound (validRecord key) ≡ true → sound (withCurrent (rememberCurrent key) t) ≡ true
   unfolding recordsIn rememberCurrent

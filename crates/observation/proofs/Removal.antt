@@ -1,8 +1,8 @@
 -- What a fabric's removal leaves: nothing of the fabric, and everything of the others, in order. So a table in which one fabric stored a
 -- scene is empty again once that fabric is removed. Assumes nothing.
-use Prim.Native.Nat.{ℕ, _+_, _^_, _≤_, _<_}
+use Prim.Native.Nat.{ℕ, _^_, _≤_, _<_}
 use mathlib.Core.Path.{_≡_, refl, sym, ap, _∙_, subst}
-use mathlib.Core.Bool.{Bool, true, false, not, cond, _||_}
+use mathlib.Core.Bool.{true, false, not, cond}
 use mathlib.Core.List.{List, [], _∷_, _++_}
 use native.Mathlib.Omega.{arith}
 use lib.Dec.{eqb, ltb}
@@ -18,10 +18,10 @@ use Rattle.scenes.specs.Sound.{sound}
 use Rattle.scenes.specs.Commands.{storeScene}
 use Rattle.scenes.specs.Lifecycle.{removeForFabric}
 use Rattle.observation.specs.Lists.{find, keep}
-use Rattle.observation.specs.Views.{keyIs, entryOf}
-use Rattle.observation.specs.Calls.{Command, store, command, removal, does, step, next, sceneKey, FitsCommand}
-use Rattle.observation.specs.Equivalence.{mine, ofFabric}
-use Rattle.observation.specs.Changes.{View, viewOf, placeFor, written, invalidated, remembered}
+use Rattle.observation.specs.Calls.{Command, store, command, removal, does, step, sceneKey, CommandInRange}
+use Rattle.observation.specs.Equivalence.{keyIs, mine, ofFabric}
+use Rattle.observation.proofs.Lookups.{entryOf}
+use Rattle.observation.proofs.Changes.{View, viewOf, placeFor, written, invalidated, remembered}
 use Rattle.observation.proofs.Bits.{key-fabric, key-small, record-key}
 use Rattle.observation.proofs.Choices.{cond-elim}
 use Rattle.observation.proofs.Effects.{Seen, sees, gateOf, refuse, done, timeOf}
@@ -49,10 +49,10 @@ record Only (f : ℕ) (v : View) : Type 0 where
   records : keep (λ w. not (ofFabric f w)) (v .records) ≡ []
 
 module _ (t : Table) (sd : sound t ≡ true) (no-entries : t .state .entries ≡ 0) (no-records : t .state .recorded ≡ 0)
-    (f e g s : ℕ) (m : Membership) (captured : List ℕ) (f1 : 1 ≤ f) (f255 : f ≤ 255) (he : e < 2 ^ 16) (fit : FitsCommand (store g s m captured)) where
-  blank : viewOf t ≡ record { size = t .state .size; dataver = t .state .dataver; entries = []; records = [] }
+    (f e g s : ℕ) (m : Membership) (captured : List ℕ) (f1 : 1 ≤ f) (f255 : f ≤ 255) (he : e < 2 ^ 16) (fit : CommandInRange (store g s m captured)) where
+  empty-view : viewOf t ≡ record { size = t .state .size; dataver = t .state .dataver; entries = []; records = [] }
   unfolding viewOf entriesIn recordsIn positions
-  blank = rw (no-entries, no-records)
+  empty-view = rw (no-entries, no-records)
 
   -- an entry and a record of the stored scene are the fabric's
   own-entry : (time : ℕ) (ext : List ℕ) → mine f (entryOf (sceneKey f e g s) time ext) ≡ true
@@ -92,16 +92,16 @@ module _ (t : Table) (sd : sound t ≡ true) (no-entries : t .state .entries ≡
       let c : Command = store g s m captured in
       let all = laws .commands f e t sd (omega arith) he in
       (elim (eqb (gateOf f e c) success) as (λ b. eqb (gateOf f e c) success ≡ b → OwnIfDone (sees (command f e c) t)) [
-        | true ↦ λ q. subst OwnIfDone (sym (all .store-acts g s m captured fit (eqb-true (gateOf f e c) success q))) (subst (λ (v : View). OwnIfDone (stores v)) (sym blank) stores-own)
+        | true ↦ λ q. subst OwnIfDone (sym (all .store-acts g s m captured fit (eqb-true (gateOf f e c) success q))) (subst (λ (v : View). OwnIfDone (stores v)) (sym empty-view) stores-own)
         | false ↦ λ q. let n = eqb-false (gateOf f e c) success q in subst OwnIfDone (sym (all .refused-acts c fit n)) (λ z. absurd (n z))
       ]) refl
 
-  -- the crating test: a store that succeeds on an empty table, then the fabric's removal, leaves no entry and no record
-  pub crated : storeScene (sceneKey f e g s) m captured t .status ≡ success
+  -- a store that succeeds on an empty table, then the fabric's removal, leaves no entry and no record
+  pub stored-then-removed : storeScene (sceneKey f e g s) m captured t .status ≡ success
       → (removeForFabric f (storeScene (sceneKey f e g s) m captured t .table) .table .state .entries ≡ 0)
       × (removeForFabric f (storeScene (sceneKey f e g s) m captured t .table) .table .state .recorded ≡ 0)
   unfolding step does viewOf
-  crated ok =
+  stored-then-removed ok =
       let u : Table = storeScene (sceneKey f e g s) m captured t .table in
       let su : sound u ≡ true = step-sound (command f e (store g s m captured)) t (omega arith, he, fit) sd in
       let own = stored-own ok in

@@ -18,11 +18,12 @@ use Rattle.records.specs.declared.Scope.the-variants.{Scene, Group}
 use Rattle.requests.specs.declared.Membership.{Membership}
 use Rattle.scenes.specs.declared.Applied.{Applied}
 use Rattle.scenes.specs.declared.Transition.{Transition}
-use Rattle.observation.specs.Lists.{bit, found, count, find, has, keep, takeOut, Often}
-use Rattle.observation.specs.Views.{keyIs, holds, entryOf}
-use Rattle.observation.specs.Calls.{Command, add, view, remove, removeAll, store, recall, membership, info, Answer, sceneKey, groupKey, FitsCommand}
-use Rattle.observation.specs.Equivalence.{Same, wholeCopy, mine, seen}
-use Rattle.observation.specs.Changes.{View, usedIn, roomIn, currentIn, placeFor, entriesSet, written, invalidated, remembered}
+use Rattle.observation.specs.Lists.{bit, count, find, keep}
+use Rattle.observation.specs.Calls.{Command, add, view, remove, removeAll, store, recall, membership, info, Answer, sceneKey, groupKey, CommandInRange}
+use Rattle.observation.specs.Equivalence.{keyIs, Same, wholeCopy, mine, seen}
+use Rattle.observation.proofs.Lists.{found, has, takeOut, Often}
+use Rattle.observation.proofs.Lookups.{holds, entryOf}
+use Rattle.observation.proofs.Changes.{View, usedIn, roomIn, currentIn, placeFor, entriesSet, written, invalidated, remembered}
 use Rattle.observation.proofs.Effects.{Seen, refuse, done, shown, gateOf, timeOf, viewed, applied, recalled, idsIn, row, infoOut}
 use Rattle.observation.proofs.Counts.{count-keep, count-map, length-count, count-le, find-put}
 use Rattle.observation.proofs.Choices.{cond-elim, cond-two, has-same, count-has, less-takeOut, less-keep}
@@ -93,7 +94,7 @@ module _ (f e g : ℕ) (he : e < 2 ^ 16) (hg : g < 2 ^ 16) where
 -- ---- the commands and reads
 
 module _ (f e : ℕ) (hf : f < 2 ^ 8) (he : e < 2 ^ 16) where
-  pub add-responds : (g s time : ℕ) (m : Membership) (pairs ext : List ℕ) → FitsCommand (add g s time m pairs ext) → gateOf f e (add g s time m pairs ext) ≡ 0
+  pub add-responds : (g s time : ℕ) (m : Membership) (pairs ext : List ℕ) → CommandInRange (add g s time m pairs ext) → gateOf f e (add g s time m pairs ext) ≡ 0
       → Responds f (add g s time m pairs ext) (λ v.
       cond (placeFor (wordOf (sceneKey f e g s)) v)
       (done true, invalidated (Scene (sceneKey f e g s)) (written (entryOf (sceneKey f e g s) time ext) v))
@@ -113,13 +114,13 @@ module _ (f e : ℕ) (hf : f < 2 ^ 8) (he : e < 2 ^ 16) where
         leaves = λ v i. cond-elim (λ (o : Seen). Inv (o .1)) (placeFor k v) (λ q. invalidated-inv (Scene key) (written x v) (written-inv x v fine (placed k v q) i)) (λ _. i);
       }
 
-  pub view-responds : (g s : ℕ) (m : Membership) → FitsCommand (view g s m) → Responds f (view g s m) (λ v. (viewed (find (keyIs (wordOf (sceneKey f e g s))) (v .entries)), v))
+  pub view-responds : (g s : ℕ) (m : Membership) → CommandInRange (view g s m) → Responds f (view g s m) (λ v. (viewed (find (keyIs (wordOf (sceneKey f e g s))) (v .entries)), v))
   view-responds g s m hc = record {
     alike = λ v w i j a. kept (ap viewed (sim-find f v w a (wordOf (sceneKey f e g s)) (key-fabric f e g s hf he (hc .0) (hc .1)) (j .good))) a;
     leaves = λ v i. i;
   }
 
-  pub remove-responds : (g s : ℕ) (m : Membership) → FitsCommand (remove g s m)
+  pub remove-responds : (g s : ℕ) (m : Membership) → CommandInRange (remove g s m)
       → Responds f (remove g s m) (λ v.
       cond (has (keyIs (wordOf (sceneKey f e g s))) (v .entries))
       (done true, invalidated (Scene (sceneKey f e g s)) (entriesSet (takeOut (keyIs (wordOf (sceneKey f e g s))) (v .entries)) v))
@@ -137,7 +138,7 @@ module _ (f e : ℕ) (hf : f < 2 ^ 8) (he : e < 2 ^ 16) where
             (λ _. invalidated-inv (Scene key) _ (shrunk-inv _ v (less-takeOut (keyIs k) (v .entries)) (takeOut-good (keyIs k) (v .entries) (i .good)) i)) (λ _. i);
       }
 
-  pub removeAll-responds : (g : ℕ) (m : Membership) → FitsCommand (removeAll g m)
+  pub removeAll-responds : (g : ℕ) (m : Membership) → CommandInRange (removeAll g m)
       → Responds f (removeAll g m) (λ v.
       cond (has (holds (groupKeys f e g)) (v .entries))
       (done true, invalidated (Group (groupKey f e g)) (entriesSet (keep (λ x. not (holds (groupKeys f e g) x)) (v .entries)) v))
@@ -156,7 +157,7 @@ module _ (f e : ℕ) (hf : f < 2 ^ 8) (he : e < 2 ^ 16) where
             (λ _. invalidated-inv (Group key) _ (shrunk-inv _ v (less-keep r (v .entries)) (keep-good r (v .entries) (i .good)) i)) (λ _. i);
       }
 
-  pub store-responds : (g s : ℕ) (m : Membership) (captured : List ℕ) → FitsCommand (store g s m captured) → gateOf f e (store g s m captured) ≡ 0
+  pub store-responds : (g s : ℕ) (m : Membership) (captured : List ℕ) → CommandInRange (store g s m captured) → gateOf f e (store g s m captured) ≡ 0
       → Responds f (store g s m captured) (λ v.
       cond (placeFor (wordOf (sceneKey f e g s)) v) (
         done true,
@@ -193,7 +194,7 @@ module _ (f e : ℕ) (hf : f < 2 ^ 8) (he : e < 2 ^ 16) where
             (λ _. i);
       }
 
-  pub recall-responds : (g s : ℕ) (m : Membership) (o : Transition) (a : Applied) → FitsCommand (recall g s m o a) → gateOf f e (recall g s m o a) ≡ 0
+  pub recall-responds : (g s : ℕ) (m : Membership) (o : Transition) (a : Applied) → CommandInRange (recall g s m o a) → gateOf f e (recall g s m o a) ≡ 0
       → Responds f (recall g s m o a) (λ v. (
         recalled o a (find (keyIs (wordOf (sceneKey f e g s))) (v .entries)),
         cond (has (keyIs (wordOf (sceneKey f e g s))) (v .entries) && applied a) (remembered (sceneKey f e g s) v) v,
@@ -213,7 +214,7 @@ module _ (f e : ℕ) (hf : f < 2 ^ 8) (he : e < 2 ^ 16) where
         leaves = λ v i. cond-elim Inv (has (keyIs k) (v .entries) && applied ok) (λ _. remembered-inv key fine h v i) (λ _. i);
       }
 
-  pub membership-responds : (g : ℕ) (m : Membership) (buffer : List ℕ) → FitsCommand (membership g m buffer)
+  pub membership-responds : (g : ℕ) (m : Membership) (buffer : List ℕ) → CommandInRange (membership g m buffer)
       → Responds f (membership g m buffer) (λ v.
       cond (ltb (length buffer) (length (idsIn f e g v))) (refuse listTooLong, v)
       (record { status = success; save = false; values = min (roomIn f v) maxShown ∷ []; ids = idsIn f e g v }, v))

@@ -17,11 +17,12 @@ use Rattle.records.specs.declared.Scope.{Scope}
 use Rattle.records.specs.declared.Scope.the-variants.{Scene, Group}
 use Rattle.requests.specs.declared.Membership.{Membership}
 use Rattle.requests.specs.Requests.{reserved, wholeGroup}
-use Rattle.observation.specs.Lists.{bit, found, count, find, has, keep, Often}
-use Rattle.observation.specs.Views.{keyIs, holds}
-use Rattle.observation.specs.Calls.{Command, copy, sceneKey, groupKey, copyRequest, FitsCommand}
-use Rattle.observation.specs.Equivalence.{wholeCopy, mine}
-use Rattle.observation.specs.Changes.{View, roomIn, invalidated, written, writtenAll}
+use Rattle.observation.specs.Lists.{bit, count, find, keep}
+use Rattle.observation.specs.Calls.{Command, copy, sceneKey, groupKey, copyRequest, CommandInRange}
+use Rattle.observation.specs.Equivalence.{keyIs, wholeCopy, mine}
+use Rattle.observation.proofs.Lists.{found, has, Often}
+use Rattle.observation.proofs.Lookups.{holds}
+use Rattle.observation.proofs.Changes.{View, roomIn, invalidated, written, writtenAll}
 use Rattle.observation.proofs.Effects.{Seen, refuse, gateOf, first, sources, target, scopeOf, copied, copyOut}
 use Rattle.observation.proofs.Counts.{both, count-keep, count-map, count-takeOut, length-count, opt}
 use Rattle.observation.proofs.Choices.{cond-elim, cond-two, or-other, count-none, count-less}
@@ -169,7 +170,7 @@ module _ (f : ℕ) (c : Command) (v w : View) (i : Inv v) (j : Inv w) (a : Sim f
       (λ _ _. record { same = same-of refl; onward = λ z. absurd (false≢true (sym z ∙ ap (λ (b : Bool). b && true) whole)) })) a
 
 module _ (f e : ℕ) (hf : f < 2 ^ 8) (he : e < 2 ^ 16) where
-  pub copy-responds : (mode g s h r : ℕ) (m n : Membership) → FitsCommand (copy mode g s h r m n) → gateOf f e (copy mode g s h r m n) ≡ 0
+  pub copy-responds : (mode g s h r : ℕ) (m n : Membership) → CommandInRange (copy mode g s h r m n) → gateOf f e (copy mode g s h r m n) ≡ 0
       → Responds f (copy mode g s h r m n) (λ v.
       cond (eqb (roomIn f v) 0) (refuse insufficientSpace, v)
       (copyOut f (scopeOf f e mode h r) (map (target f e mode h r) (sources f e mode g s v)) v))

@@ -16,10 +16,10 @@ use Rattle.slots.specs.Slots.{SceneEntry}
 use Rattle.records.specs.declared.Scope.{Scope}
 use Rattle.records.specs.declared.Scope.the-variants.{Scene, Group, Endpoint}
 use Rattle.records.specs.Records.{inScope, cleared}
-use Rattle.observation.specs.Lists.{bit, found, count, find, has, keep, put, takeOut}
-use Rattle.observation.specs.Views.{keyIs}
-use Rattle.observation.specs.Equivalence.{mine, ofFabric, SeenRecord, seen}
-use Rattle.observation.specs.Changes.{View, freeIn, usedIn, roomIn, currentIn, recordFitsIn, placeFor, entriesSet, written, invalidated, remembered}
+use Rattle.observation.specs.Lists.{bit, count, find, keep}
+use Rattle.observation.specs.Equivalence.{keyIs, mine, ofFabric, SeenRecord, seen}
+use Rattle.observation.proofs.Lists.{found, has, put, takeOut}
+use Rattle.observation.proofs.Changes.{View, freeIn, usedIn, roomIn, currentIn, recordFitsIn, placeFor, entriesSet, written, invalidated, remembered}
 use Rattle.observation.proofs.Counts.{both, opt, count-put, count-takeOut, count-keep, find-passes, find-counts, find-none, none-find, find-one, find-map, find-put, length-put, length-takeOut, length-keep}
 use Rattle.observation.proofs.Choices.{lost, less-takeOut, less-keep}
 use Rattle.observation.proofs.Bits.{low-key, low-invalid, cleared-key}

@@ -17,8 +17,8 @@ use Rattle.records.specs.Records.{recordSound}
 use Rattle.records.proofs.View.{sound-at, sound-all}
 use Rattle.scenes.specs.declared.ScenesState.{ScenesState}
 use Rattle.scenes.specs.Table.{Table, withEntryCount, withRecordCount, bumpIf}
-use Rattle.scenes.specs.Sound.{fits, sound}
-use Rattle.scenes.proofs.Laws.{Fits, sound-fits}
+use Rattle.scenes.specs.Sound.{inBounds, sound}
+use Rattle.scenes.proofs.Laws.{InBounds, sound-bounds}
 
 pub record Sound (t : Table) : Type 0 where
   pub most : t .state .size ≤ maxScenes
@@ -35,7 +35,7 @@ pub record Sound (t : Table) : Type 0 where
 pub to-each : (t : Table) → sound t ≡ true → Sound t
 unfolding sound
 to-each t e =
-    let f = sound-fits t e in
+    let f = sound-bounds t e in
     let e1 = all-tail _ _ e in
     let e2 = all-tail _ _ e1 in
     let e3 = all-tail _ _ e2 in
@@ -52,9 +52,9 @@ to-each t e =
       record-at = λ i h. sound-at (t .records) (t .state .recorded) i (all-head _ _ e3) h;
     }
 
-of-fits : (s : ScenesState) (ks ts fs rs : ℕ) → Fits s ks ts fs rs → fits s ks ts fs rs ≡ true
-unfolding fits
-of-fits s ks ts fs rs f =
+of-bounds : (s : ScenesState) (ks ts fs rs : ℕ) → InBounds s ks ts fs rs → inBounds s ks ts fs rs ≡ true
+unfolding inBounds
+of-bounds s ks ts fs rs f =
     all-more _ _ (le-leb _ _ (f .most))
     (all-more _ _ (le-leb _ _ (f .entries))
     (all-more _ _ (le-leb _ _ (f .recorded))
@@ -66,7 +66,7 @@ of-fits s ks ts fs rs f =
 pub of-each : (t : Table) → Sound t → sound t ≡ true
 unfolding sound
 of-each t s =
-    all-more _ _ (of-fits (t .state) _ _ _ _ (record { most = s .most; entries = s .entries; recorded = s .recorded; keys = s .keys; times = s .times; fields = s .fields; records = s .records }))
+    all-more _ _ (of-bounds (t .state) _ _ _ _ (record { most = s .most; entries = s .entries; recorded = s .recorded; keys = s .keys; times = s .times; fields = s .fields; records = s .records }))
     (all-more _ _ (keys-all (t .slots .keys) (t .state .entries) (s .key-at))
     (all-more _ _ (lengths-all (t .slots .fields) (t .state .entries) (s .length-at))
     (all-more _ _ (sound-all (t .records) (t .state .recorded) (s .record-at)) all-none)))

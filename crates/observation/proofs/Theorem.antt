@@ -3,19 +3,16 @@
 use Prim.Native.Nat.{ℕ, _≤_}
 use native.Mathlib.Omega.{arith}
 use mathlib.Core.Path.{_≡_, ap, _∙_}
-use mathlib.Core.Bool.{Bool, true, false}
+use mathlib.Core.Bool.{Bool, false}
 use mathlib.Core.List.{List, _∷_, List·Memᴰ, List·Memᴰ·head, List·Memᴰ·tail}
 use lib.Dec.{eqb}
 use borrow.Author.Tests.{eqb-false}
 use Rattle.words.specs.Words.{sceneOf, keyOfRecord}
-use Rattle.slots.specs.Slots.{SceneEntry}
 use Rattle.scenes.specs.Table.{Table, entriesIn, recordsIn}
-use Rattle.scenes.specs.Sound.{sound}
 use Rattle.requests.specs.Requests.{reserved}
 use Rattle.observation.specs.Lists.{count}
-use Rattle.observation.specs.Views.{keyIs}
 use Rattle.observation.specs.Equivalence.{Reached, Proper, Demand3}
-use Rattle.observation.specs.Changes.{viewOf}
+use Rattle.observation.proofs.Changes.{viewOf}
 use Rattle.observation.proofs.Calls.{laws}
 use Rattle.observation.proofs.Choices.{or-none, bit-zero}
 use Rattle.observation.proofs.Invariant.{bad, badRecord, fine-entry, fine-record}

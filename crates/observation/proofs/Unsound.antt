@@ -8,13 +8,13 @@ use Rattle.words.specs.Constants.{success, unsound}
 use Rattle.scenes.specs.declared.SceneRead.{SceneRead}
 use Rattle.scenes.specs.Table.{Table}
 use Rattle.scenes.specs.Sound.{sound}
-use Rattle.scenes.specs.Answer.{Result, refusalOf, guarded}
+use Rattle.scenes.specs.Answer.{refusalOf, guarded}
 use Rattle.scenes.specs.Commands.{addScene, storeScene, removeScene, removeAllScenes, recallScene}
 use Rattle.scenes.specs.Copy.{copyScene}
-use Rattle.scenes.specs.Reads.{unread, viewScene, recallLookup, Listed, getSceneMembership, readFabricSceneInfo}
-use Rattle.scenes.specs.declared.InfoRead.{InfoRead}
+use Rattle.scenes.specs.Reads.{unread, viewScene, recallLookup, getSceneMembership, readFabricSceneInfo}
 use Rattle.scenes.specs.Lifecycle.{scenableAttributeChanged, removeForFabric, factoryReset, startup, failSafe}
 use Rattle.observation.specs.Calls.{Command, add, view, remove, removeAll, store, recall, copy, membership, info, Call, command, notice, removal, reset, start, failSafeEvent, Out, withState, ofResult, ofView, ofRecall, ofList, ofInfo, sceneKey, does, step}
+use Rattle.observation.specs.Refusals.{UnsoundRun}
 
 module _ (t : Table) (h : sound t ≡ false) where
   -- whatever the request alone decides, the refusal is 6
@@ -43,11 +43,14 @@ module _ (t : Table) (h : sound t ≡ false) where
   does-refused f e (membership g m buffer) = ap (λ l. ofList l t) (refuses _ _ _)
   does-refused f e (info single) = ap (λ r. ofInfo r t) (refuses _ _ _)
 
-  pub unsound-refused : (c : Call) → Refused (step c t)
+  step-refused : (c : Call) → Refused (step c t)
   unfolding step scenableAttributeChanged removeForFabric factoryReset startup failSafe
-  unsound-refused (command f e c) = does-refused f e c
-  unsound-refused (notice e) = ap ofResult (refuses _ _ _)
-  unsound-refused (removal f) = ap ofResult (refuses _ _ _)
-  unsound-refused reset = ap ofResult (refuses _ _ _)
-  unsound-refused start = ap ofResult (refuses _ _ _)
-  unsound-refused failSafeEvent = ap ofResult (refuses _ _ _)
+  step-refused (command f e c) = does-refused f e c
+  step-refused (notice e) = ap ofResult (refuses _ _ _)
+  step-refused (removal f) = ap ofResult (refuses _ _ _)
+  step-refused reset = ap ofResult (refuses _ _ _)
+  step-refused start = ap ofResult (refuses _ _ _)
+  step-refused failSafeEvent = ap ofResult (refuses _ _ _)
+
+pub unsound-refused : UnsoundRun
+unsound-refused t h c = step-refused t h c

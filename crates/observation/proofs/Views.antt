@@ -1,9 +1,9 @@
 -- What is read of the head and the lent lists is what the views show: lookups, counts and lengths. Assumes nothing.
 use Prim.Native.Nat.{ℕ}
 use mathlib.Core.Path.{_≡_, refl, sym, ap, _∙_}
-use mathlib.Core.Bool.{Bool, true, false, false≢true}
+use mathlib.Core.Bool.{Bool, true}
 use mathlib.Core.List.{map}
-use mathlib.Core.Option.{none, some}
+use mathlib.Core.Option.{some}
 use native.Mathlib.Omega.{arith}
 use lib.ListN.{length, getD}
 use lib.Seq.{length-take-le}
@@ -19,8 +19,10 @@ use Rattle.records.specs.Records.{firstOwned, hits, anyHit}
 use Rattle.scenes.specs.Table.{Table, entriesIn, recordsIn}
 use Rattle.scenes.specs.Sound.{sound}
 use Rattle.scenes.proofs.Laws.{sound-room}
-use Rattle.observation.specs.Lists.{found, count, find, has}
-use Rattle.observation.specs.Views.{keyIs, holds, ownedBy, isAt, foundAt}
+use Rattle.observation.specs.Lists.{count, find}
+use Rattle.observation.specs.Equivalence.{keyIs}
+use Rattle.observation.proofs.Lists.{found, has}
+use Rattle.observation.proofs.Lookups.{holds, ownedBy, isAt, foundAt}
 use Rattle.observation.proofs.Counts.{count-map, has-map}
 use Rattle.observation.proofs.Firsts.{find-first, find-nowhere}
 use Rattle.observation.proofs.Positions.{count-positions, has-positions, view-length, view-at, view-list, view-first, view-nowhere}
@@ -40,15 +42,6 @@ module _ {A : Type 0} (d : A) (g : ℕ → A) (h : A → Bool) (n : ℕ) where
 has-found : {A : Type 0} (g : ℕ → A) (f : Found) → found (foundAt g f) ≡ isAt f
 has-found g (At p) = refl
 has-found g Nothing = refl
-
--- what was found, from that something was, or was not
-pub at-of : (f : Found) → isAt f ≡ true → (p : ℕ) × (f ≡ At p)
-at-of (At p) e = (p, refl)
-at-of Nothing e = absurd (false≢true e)
-
-pub nothing-of : (f : Found) → isAt f ≡ false → f ≡ Nothing
-nothing-of (At p) e = absurd (false≢true (sym e))
-nothing-of Nothing e = refl
 
 -- ---- the entries
 
@@ -70,12 +63,6 @@ module _ (t : Table) where
 
     pub entries-has : has (keyIs k) (entriesIn t) ≡ isAt (firstKey (t .slots .keys) (t .state .entries) k)
     entries-has = ap found entries-find ∙ has-found (entryAt (t .slots)) (firstKey (t .slots .keys) (t .state .entries) k)
-
-    pub known : (p : ℕ) → firstKey (t .slots .keys) (t .state .entries) k ≡ At p → find (keyIs k) (entriesIn t) ≡ some (entryAt (t .slots) p)
-    known p e = entries-find ∙ ap (foundAt (entryAt (t .slots))) e
-
-    pub unknown : firstKey (t .slots .keys) (t .state .entries) k ≡ Nothing → find (keyIs k) (entriesIn t) ≡ none
-    unknown e = entries-find ∙ ap (foundAt (entryAt (t .slots))) e
 
 -- ---- the records
 

@@ -2,7 +2,7 @@
 -- contracts cite, applied; there is no other definition of a call. Document 01, "In the sight of a fabric".
 use Prim.Native.Nat.{ℕ, _^_, _<_}
 use mathlib.Core.Path.{_≡_}
-use mathlib.Core.Bool.{Bool, true, false, cond}
+use mathlib.Core.Bool.{Bool, false, cond}
 use mathlib.Core.List.{List, [], _∷_}
 use lib.Dec.{eqb, leb}
 use lib.ListN.{take}
@@ -144,21 +144,21 @@ abbrev pub override : Transition → ℕ
 override Stored = 0
 override (Given o) = o
 
-abbrev pub FitsCommand : Command → Type 0
-FitsCommand (add g s time m pairs ext) = (g < 2 ^ 16) × (s < 2 ^ 8) × (time < 2 ^ 32) × Bytes pairs × Bytes ext
-FitsCommand (view g s m) = (g < 2 ^ 16) × (s < 2 ^ 8)
-FitsCommand (remove g s m) = (g < 2 ^ 16) × (s < 2 ^ 8)
-FitsCommand (removeAll g m) = g < 2 ^ 16
-FitsCommand (store g s m captured) = (g < 2 ^ 16) × (s < 2 ^ 8) × Bytes captured
-FitsCommand (recall g s m o a) = (g < 2 ^ 16) × (s < 2 ^ 8) × (override o < 2 ^ 32)
-FitsCommand (copy mode g s h r m n) = (mode < 2 ^ 8) × (g < 2 ^ 16) × (s < 2 ^ 8) × (h < 2 ^ 16) × (r < 2 ^ 8)
-FitsCommand (membership g m buffer) = (g < 2 ^ 16) × Bytes buffer
-FitsCommand (info single) = Unit {0}
+abbrev pub CommandInRange : Command → Type 0
+CommandInRange (add g s time m pairs ext) = (g < 2 ^ 16) × (s < 2 ^ 8) × (time < 2 ^ 32) × Bytes pairs × Bytes ext
+CommandInRange (view g s m) = (g < 2 ^ 16) × (s < 2 ^ 8)
+CommandInRange (remove g s m) = (g < 2 ^ 16) × (s < 2 ^ 8)
+CommandInRange (removeAll g m) = g < 2 ^ 16
+CommandInRange (store g s m captured) = (g < 2 ^ 16) × (s < 2 ^ 8) × Bytes captured
+CommandInRange (recall g s m o a) = (g < 2 ^ 16) × (s < 2 ^ 8) × (override o < 2 ^ 32)
+CommandInRange (copy mode g s h r m n) = (mode < 2 ^ 8) × (g < 2 ^ 16) × (s < 2 ^ 8) × (h < 2 ^ 16) × (r < 2 ^ 8)
+CommandInRange (membership g m buffer) = (g < 2 ^ 16) × Bytes buffer
+CommandInRange (info single) = Unit {0}
 
-abbrev pub Fits : Call → Type 0
-Fits (command f e c) = (f < 2 ^ 8) × (e < 2 ^ 16) × FitsCommand c
-Fits (notice e) = e < 2 ^ 16
-Fits (removal f) = f < 2 ^ 8
-Fits reset = Unit {0}
-Fits start = Unit {0}
-Fits failSafeEvent = Unit {0}
+abbrev pub InRange : Call → Type 0
+InRange (command f e c) = (f < 2 ^ 8) × (e < 2 ^ 16) × CommandInRange c
+InRange (notice e) = e < 2 ^ 16
+InRange (removal f) = f < 2 ^ 8
+InRange reset = Unit {0}
+InRange start = Unit {0}
+InRange failSafeEvent = Unit {0}

@@ -14,15 +14,14 @@ use Rattle.requests.specs.Requests.{wholeGroup}
 use Rattle.scenes.specs.Table.{Table, entriesIn, recordsIn}
 use Rattle.scenes.specs.Sound.{sound}
 use Rattle.observation.specs.Lists.{count, find, keep}
-use Rattle.observation.specs.Views.{keyIs}
-use Rattle.observation.specs.Calls.{Command, add, view, remove, removeAll, store, recall, copy, membership, info, Call, command, notice, Answer, answer, next, Fits}
+use Rattle.observation.specs.Calls.{Command, add, view, remove, removeAll, store, recall, copy, membership, info, Call, command, notice, Answer, answer, next, InRange}
 
 -- ---- reached tables
 
 -- an empty table, whatever its version and the lent bytes, and what any call, refused or not, leaves of a reached one
 pub data Reached : Table → Type 0 where
   empty : (t : Table) → sound t ≡ true → t .state .entries ≡ 0 → t .state .recorded ≡ 0 → Reached t
-  after : (c : Call) {t : Table} → Fits c → Reached t → Reached (next c t)
+  after : (c : Call) {t : Table} → InRange c → Reached t → Reached (next c t)
 
 -- ---- equal answers to whole lists
 
@@ -74,13 +73,13 @@ Alike f (x ∷ xs) s t =
     Compared x (answer (callOf f x) s) (answer (callOf f x) t)
     × unless (ends x (answer (callOf f x) s) || ends x (answer (callOf f x) t)) (Alike f xs (next (callOf f x) s) (next (callOf f x) t))
 
-abbrev pub AllFit : ℕ → List Event → Type 0
-AllFit f [] = Unit {0}
-AllFit f (x ∷ xs) = Fits (callOf f x) × AllFit f xs
+abbrev pub AllInRange : ℕ → List Event → Type 0
+AllInRange f [] = Unit {0}
+AllInRange f (x ∷ xs) = InRange (callOf f x) × AllInRange f xs
 
 -- equal in the sight of the fabric
 abbrev pub Equivalent : ℕ → Table → Table → Type 0
-Equivalent f s t = (xs : List Event) → AllFit f xs → Alike f xs s t
+Equivalent f s t = (xs : List Event) → AllInRange f xs → Alike f xs s t
 
 -- ---- the four matters
 
@@ -126,6 +125,10 @@ pub record Agree (f : ℕ) (s t : Table) : Type 0 where
   pub scenes : List·Permᴰ (scenesOf f s) (scenesOf f t)
   pub recorded : Option·map seen (currentOf f s) ≡ Option·map seen (currentOf f t)
   pub oneMore : currentOf f s ≡ none → 0 < count (mine f) (entriesIn s) + free s → recordFits s ≡ recordFits t
+
+-- the entry of a key word
+abbrev pub keyIs : ℕ → SceneEntry → Bool
+keyIs k x = eqb (x .key) k
 
 -- what every reached table has: it is sound; no key twice, no fabric with two records; scene ids 1 to 254 in entries and in records
 pub record Proper (t : Table) : Type 0 where

@@ -1,6 +1,6 @@
 pub mod Lists
-pub mod Views
 pub mod Calls
 pub mod Equivalence
-pub mod Changes
 pub mod Numbers
+pub mod Refusals
+pub mod FieldBytes

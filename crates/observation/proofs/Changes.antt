@@ -4,7 +4,7 @@ use Prim.Native.Nat.{ℕ, _+_, _-_, _/_, _%_, _^_, min}
 use mathlib.Core.Bool.{Bool, true, false, cond, _||_}
 use mathlib.Core.List.{List, [], _∷_, map}
 use mathlib.Core.Option.{Option}
-use lib.Dec.{eqb, ltb}
+use lib.Dec.{ltb}
 use lib.ListN.{length}
 use Rattle.words.specs.Words.{validRecord}
 use Rattle.words.specs.declared.SceneKey.{SceneKey}
@@ -12,9 +12,9 @@ use Rattle.slots.specs.Slots.{SceneEntry}
 use Rattle.records.specs.declared.Scope.{Scope}
 use Rattle.records.specs.Records.{hits, cleared}
 use Rattle.scenes.specs.Table.{Table, entriesIn, recordsIn}
-use Rattle.observation.specs.Lists.{count, find, has, put}
-use Rattle.observation.specs.Views.{keyIs}
-use Rattle.observation.specs.Equivalence.{mine, ofFabric}
+use Rattle.observation.specs.Lists.{count, find}
+use Rattle.observation.specs.Equivalence.{keyIs, mine, ofFabric}
+use Rattle.observation.proofs.Lists.{has, put}
 
 pub record View : Type 0 where
   pub size : ℕ

@@ -4,7 +4,7 @@ use Prim.Native.Nat.{ℕ}
 use mathlib.Core.Bool.{Bool, true, false, cond, _||_}
 use mathlib.Core.List.{List}
 use mathlib.Core.Option.{Option, none, some}
-use lib.Dec.{eqb, ltb}
+use lib.Dec.{ltb}
 use Rattle.words.specs.Words.{wordOf, within, owns, validRecord}
 use Rattle.words.specs.declared.Found.{Found}
 use Rattle.words.specs.declared.Found.the-variants.{At, Nothing}
@@ -12,13 +12,9 @@ use Rattle.words.specs.declared.KeyRange.{KeyRange}
 use Rattle.words.specs.declared.SceneKey.{SceneKey}
 use Rattle.slots.specs.Slots.{SceneEntry}
 use Rattle.scenes.specs.Table.{Table, recordsIn}
-use Rattle.observation.specs.Lists.{has, put}
+use Rattle.observation.proofs.Lists.{has, put}
 
 -- ---- tests
-
--- the entry of a key word
-abbrev pub keyIs : ℕ → SceneEntry → Bool
-keyIs k x = eqb (x .key) k
 
 -- an entry of a range
 abbrev pub holds : KeyRange → SceneEntry → Bool
