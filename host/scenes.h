@@ -10,7 +10,8 @@
  *
  * Whatever the head, the arrays and the other arguments hold, a call returns, and answers a number of the list below. What it asks of C:
  * a pointer is valid for its count and not null, even where the count is 0; no two arrays of a call overlap; nobody else touches them
- * meanwhile. Keep the head that a call hands back, for the next one: also a refusal hands it back, as it came.
+ * meanwhile. Keep the head that a call hands back, for the next one, after a refusal too: it comes back as it was but for a whole-group
+ * copy that answers 0x89 midway, which hands back the head that counts the copies it had made.
  *
  * Answers of 0 and 1 are `bool`; arguments that are yes or no are bytes, in which every number means something.
  * The layouts are those of x86-64 Linux.

@@ -8,6 +8,7 @@ use scenes::Applied;
 use scenes::ScenesState;
 use scenes::Transition;
 use words::GroupKey;
+use words::SceneId;
 use words::SceneKey;
 ghost use Prim.Native.Nat.{_≤_};
 ghost use lib.ListN.{length};
@@ -16,10 +17,11 @@ const ROWS: u8 = 14;
 
 const CALLS: u8 = 18;
 
-// What a call answered, with the head that it handed back.
+// What a call answered, with the head that it handed back, and whether it wrote to a scene list buffer.
 struct Done {
     status: u8,
     save: bool,
+    listed: bool,
     state: ScenesState,
 }
 
@@ -176,11 +178,24 @@ fn times_kept(times: &[u32]) -> bool {
     true
 }
 
+// Every byte of a scene list buffer is 255 before a call, which is no scene's id.
+fn ids_kept(ids: &[u8]) -> bool {
+    let mut i = 0;
+    while i < ids.len() {
+        if ids[i] != SceneId::RESERVED_SCENE_ID {
+            return false;
+        }
+        i += 1;
+    }
+    true
+}
+
 fn outcome(o: scenes::Outcome) -> Done {
     let state = o.state;
     Done {
         status: o.status,
         save: o.save,
+        listed: false,
         state,
     }
 }
@@ -189,6 +204,7 @@ fn read(status: u8, state: ScenesState) -> Done {
     Done {
         status,
         save: false,
+        listed: false,
         state,
     }
 }
@@ -263,10 +279,15 @@ fn sound_status(sound: bool) -> u8 {
 
 fn list(state: ScenesState, keys: &[u64], times: &[u32], fields: &[u8], records: &[u64]) -> Done {
     let yes = Membership::Yes;
-    let mut ids = [0u8; 3];
-    let listed = state.get_scene_membership(keys, times, fields, records, &mut ids, group(), yes);
-    let after = listed.state;
-    read(listed.status, after)
+    let mut ids = [SceneId::RESERVED_SCENE_ID; 3];
+    let read = state.get_scene_membership(keys, times, fields, records, &mut ids, group(), yes);
+    let after = read.state;
+    Done {
+        status: read.status,
+        save: false,
+        listed: !ids_kept(&ids),
+        state: after,
+    }
 }
 
 // The reads.
@@ -364,7 +385,7 @@ fn same_head(a: ScenesState, b: ScenesState) -> bool {
         & (a.dataver == b.dataver)
 }
 
-// A call on the memory of a row, and whether it left head and memory as they were, without a save mark.
+// A call on the memory of a row, and whether it left head, memory and scene list buffer as they were, without a save mark.
 fn show(
     row: u8,
     call: u8,
@@ -386,7 +407,7 @@ fn show(
         & records_kept(row, records);
     Shown {
         status: done.status,
-        changed: !(kept & same_head(after, head(row)) & !done.save),
+        changed: !(kept & same_head(after, head(row)) & !done.save & !done.listed),
     }
 }
 

@@ -1,12 +1,15 @@
--- Field bytes as an offset and a length in the lent slice, since no reference crosses the boundary.
-use Prim.Native.Nat.{ℕ, _+_, _≤_}
-use mathlib.Core.Path.{_≡_}
-use mathlib.Core.List.{List}
+-- Field bytes as an offset and a length in the lent slice, since no reference crosses the boundary: document 01, "Builders go" in "Forms
+-- that change first".
+use Prim.Native.Nat.{ℕ, _+_, _*_}
+use mathlib.Core.Bool.{cond}
+use lib.Dec.{eqb}
 use lib.ListN.{length}
-use Rattle.slots.specs.Slots.{part}
+use Rattle.words.specs.Constants.{stride}
+use Rattle.scenes.specs.Table.{Table}
+use Rattle.scenes.specs.Reads.{fieldBytes}
 use Rattle.host.specs.declared.FieldBytes.{FieldBytes}
 
--- a part of the lent bytes, within them, that holds what it should
-pub record Within (r : FieldBytes) (lent bytes : List ℕ) : Type 0 where
-  pub inside : r .offset + r .len ≤ length lent
-  pub holds : part (r .offset) (r .len) lent ≡ bytes
+-- behind the entry's length byte, as many as `fieldBytes` has; 0 and 0 where it has none
+unfoldable pub fieldPlace : ℕ → Table → FieldBytes
+fieldPlace at t =
+    cond (eqb (length (fieldBytes at t)) 0) (record { offset = 0; len = 0 }) (record { offset = at * stride + 1; len = length (fieldBytes at t) })

@@ -1,17 +1,12 @@
--- What the numbers mean that a host passes where the calls take an enum or a truth value. Every number means something.
+-- What the numbers mean that a host passes where the calls take an enum or a truth value. Every number means something. What a number
+-- says of a membership is `membershipOf` of requests.
 use Prim.Native.Nat.{ℕ}
 use mathlib.Core.Bool.{Bool, true, false, cond}
 use lib.Dec.{eqb}
-use Rattle.requests.specs.declared.Membership.{Membership}
-use Rattle.requests.specs.declared.Membership.the-variants as member
 use Rattle.scenes.specs.declared.Applied.{Applied}
 use Rattle.scenes.specs.declared.Applied.the-variants as applied
 use Rattle.scenes.specs.declared.Transition.{Transition}
 use Rattle.scenes.specs.declared.Transition.the-variants.{Stored, Given}
-
--- 1 is yes, 0 is no; at any other number the host could not tell
-unfoldable pub membershipOf : ℕ → Membership
-membershipOf n = cond (eqb n 1) member.Yes (cond (eqb n 0) member.No member.Failed)
 
 -- 1 is yes; at any other number the host could not apply the scene
 unfoldable pub appliedOf : ℕ → Applied

@@ -18,29 +18,17 @@ ghost use Rattle.scenes.specs.Sound.{sound};
 ghost use Rattle.scenes.specs.Answer.{resultOf};
 ghost use Rattle.scenes.specs.Commands.{addScene, storeScene, removeScene, removeAllScenes, recallScene};
 ghost use Rattle.scenes.specs.Copy.{copyScene};
-ghost use Rattle.scenes.specs.Reads.{viewScene, recallLookup, fieldBytes, listedOf, getSceneMembership, readFabricSceneInfo};
+ghost use Rattle.scenes.specs.Reads.{viewScene, recallLookup, listedOf, getSceneMembership, readFabricSceneInfo};
 ghost use Rattle.scenes.specs.Lifecycle.{scenableAttributeChanged, removeForFabric, factoryReset, startup, failSafe};
-ghost use Rattle.host.specs.Numbers.{membershipOf, appliedOf, transitionOf, truthOf};
-ghost use Rattle.host.specs.Fields.{Within};
+ghost use Rattle.requests.specs.Requests.{membershipOf};
+ghost use Rattle.host.specs.Numbers.{appliedOf, transitionOf, truthOf};
+ghost use Rattle.host.specs.Fields.{fieldPlace};
 
 // Where field bytes lie in the lent field slice.
 #[repr(C)]
 pub struct FieldBytes {
     pub offset: usize,
     pub len: usize,
-}
-
-// The host's answer on a group: 1 is yes, 0 is no, and any other number that it could not tell.
-fn membership(answer: u8) -> Membership
-    ensures { λ r. ⌜ r ≡ membershipOf answer ⌝ }
-{
-    if answer == 1 {
-        return Membership::Yes;
-    }
-    if answer == 0 {
-        return Membership::No;
-    }
-    Membership::Failed
 }
 
 // Whether the host applied a recalled scene: 1 is yes, any other number is no.
@@ -109,7 +97,10 @@ pub extern "C" fn scenes_add(
     pairs: &[u8],
     ext: &[u8],
 ) -> Outcome
-    ensures { λ r. ⌜ resultOf (r .status) (r .save) (tableOf (r .state) (now (keys .exit)) (now (times .exit)) (now (fields .exit)) (now (records .exit))) ≡ addScene key time (membershipOf member) (now (pairs .entry)) (now (ext .entry)) (tableOf state (now (keys .entry)) (now (times .entry)) (now (fields .entry)) (now (records .entry))) ⌝ }
+    ensures { λ r.
+        let before = tableOf state (now (keys .entry)) (now (times .entry)) (now (fields .entry)) (now (records .entry)) in
+        let after = tableOf (r .state) (now (keys .exit)) (now (times .exit)) (now (fields .exit)) (now (records .exit)) in
+        ⌜ resultOf (r .status) (r .save) after ≡ addScene key time (membershipOf member) (now (pairs .entry)) (now (ext .entry)) before ⌝ }
 {
     state.add_scene(
         keys,
@@ -118,7 +109,7 @@ pub extern "C" fn scenes_add(
         records,
         key,
         time,
-        membership(member),
+        Membership::of_number(member),
         pairs,
         ext,
     )
@@ -136,7 +127,10 @@ pub extern "C" fn scenes_store(
     member: u8,
     captured: &[u8],
 ) -> Outcome
-    ensures { λ r. ⌜ resultOf (r .status) (r .save) (tableOf (r .state) (now (keys .exit)) (now (times .exit)) (now (fields .exit)) (now (records .exit))) ≡ storeScene key (membershipOf member) (now (captured .entry)) (tableOf state (now (keys .entry)) (now (times .entry)) (now (fields .entry)) (now (records .entry))) ⌝ }
+    ensures { λ r.
+        let before = tableOf state (now (keys .entry)) (now (times .entry)) (now (fields .entry)) (now (records .entry)) in
+        let after = tableOf (r .state) (now (keys .exit)) (now (times .exit)) (now (fields .exit)) (now (records .exit)) in
+        ⌜ resultOf (r .status) (r .save) after ≡ storeScene key (membershipOf member) (now (captured .entry)) before ⌝ }
 {
     state.store_scene(
         keys,
@@ -144,7 +138,7 @@ pub extern "C" fn scenes_store(
         fields,
         records,
         key,
-        membership(member),
+        Membership::of_number(member),
         captured,
     )
 }
@@ -160,9 +154,18 @@ pub extern "C" fn scenes_view(
     key: SceneKey,
     member: u8,
 ) -> SceneRead
-    ensures { λ r. ⌜ r ≡ viewScene key (membershipOf member) (tableOf state (now (keys .entry)) (now (times .entry)) (now (fields .entry)) (now (records .entry))) ⌝ }
+    ensures { λ r.
+        let table = tableOf state (now (keys .entry)) (now (times .entry)) (now (fields .entry)) (now (records .entry)) in
+        ⌜ r ≡ viewScene key (membershipOf member) table ⌝ }
 {
-    state.view_scene(keys, times, fields, records, key, membership(member))
+    state.view_scene(
+        keys,
+        times,
+        fields,
+        records,
+        key,
+        Membership::of_number(member),
+    )
 }
 
 // What a recall applies: the time, by the override where `given` is not 0, and the scene's position.
@@ -178,7 +181,9 @@ pub extern "C" fn scenes_recall_lookup(
     given: u8,
     time: u32,
 ) -> SceneRead
-    ensures { λ r. ⌜ r ≡ recallLookup key (membershipOf member) (transitionOf given time) (tableOf state (now (keys .entry)) (now (times .entry)) (now (fields .entry)) (now (records .entry))) ⌝ }
+    ensures { λ r.
+        let table = tableOf state (now (keys .entry)) (now (times .entry)) (now (fields .entry)) (now (records .entry)) in
+        ⌜ r ≡ recallLookup key (membershipOf member) (transitionOf given time) table ⌝ }
 {
     state.recall_lookup(
         keys,
@@ -186,7 +191,7 @@ pub extern "C" fn scenes_recall_lookup(
         fields,
         records,
         key,
-        membership(member),
+        Membership::of_number(member),
         transition(given, time),
     )
 }
@@ -203,7 +208,10 @@ pub extern "C" fn scenes_recall(
     member: u8,
     applied: u8,
 ) -> Outcome
-    ensures { λ r. ⌜ resultOf (r .status) (r .save) (tableOf (r .state) (now (keys .entry)) (now (times .entry)) (now (fields .entry)) (now (records .exit))) ≡ recallScene key (membershipOf member) (appliedOf applied) (tableOf state (now (keys .entry)) (now (times .entry)) (now (fields .entry)) (now (records .entry))) ⌝ }
+    ensures { λ r.
+        let before = tableOf state (now (keys .entry)) (now (times .entry)) (now (fields .entry)) (now (records .entry)) in
+        let after = tableOf (r .state) (now (keys .entry)) (now (times .entry)) (now (fields .entry)) (now (records .exit)) in
+        ⌜ resultOf (r .status) (r .save) after ≡ recallScene key (membershipOf member) (appliedOf applied) before ⌝ }
 {
     state.recall_scene(
         keys,
@@ -211,7 +219,7 @@ pub extern "C" fn scenes_recall(
         fields,
         records,
         key,
-        membership(member),
+        Membership::of_number(member),
         application(applied),
     )
 }
@@ -227,9 +235,19 @@ pub extern "C" fn scenes_remove(
     key: SceneKey,
     member: u8,
 ) -> Outcome
-    ensures { λ r. ⌜ resultOf (r .status) (r .save) (tableOf (r .state) (now (keys .exit)) (now (times .exit)) (now (fields .exit)) (now (records .exit))) ≡ removeScene key (membershipOf member) (tableOf state (now (keys .entry)) (now (times .entry)) (now (fields .entry)) (now (records .entry))) ⌝ }
+    ensures { λ r.
+        let before = tableOf state (now (keys .entry)) (now (times .entry)) (now (fields .entry)) (now (records .entry)) in
+        let after = tableOf (r .state) (now (keys .exit)) (now (times .exit)) (now (fields .exit)) (now (records .exit)) in
+        ⌜ resultOf (r .status) (r .save) after ≡ removeScene key (membershipOf member) before ⌝ }
 {
-    state.remove_scene(keys, times, fields, records, key, membership(member))
+    state.remove_scene(
+        keys,
+        times,
+        fields,
+        records,
+        key,
+        Membership::of_number(member),
+    )
 }
 
 // Removes all scenes of a group on an endpoint.
@@ -243,9 +261,19 @@ pub extern "C" fn scenes_remove_all(
     key: GroupKey,
     member: u8,
 ) -> Outcome
-    ensures { λ r. ⌜ resultOf (r .status) (r .save) (tableOf (r .state) (now (keys .exit)) (now (times .exit)) (now (fields .exit)) (now (records .exit))) ≡ removeAllScenes key (membershipOf member) (tableOf state (now (keys .entry)) (now (times .entry)) (now (fields .entry)) (now (records .entry))) ⌝ }
+    ensures { λ r.
+        let before = tableOf state (now (keys .entry)) (now (times .entry)) (now (fields .entry)) (now (records .entry)) in
+        let after = tableOf (r .state) (now (keys .exit)) (now (times .exit)) (now (fields .exit)) (now (records .exit)) in
+        ⌜ resultOf (r .status) (r .save) after ≡ removeAllScenes key (membershipOf member) before ⌝ }
 {
-    state.remove_all_scenes(keys, times, fields, records, key, membership(member))
+    state.remove_all_scenes(
+        keys,
+        times,
+        fields,
+        records,
+        key,
+        Membership::of_number(member),
+    )
 }
 
 // Copies a scene, or with bit 0 of the mode a whole group.
@@ -260,7 +288,10 @@ pub extern "C" fn scenes_copy(
     source: u8,
     target: u8,
 ) -> Outcome
-    ensures { λ r. ⌜ resultOf (r .status) (r .save) (tableOf (r .state) (now (keys .exit)) (now (times .exit)) (now (fields .exit)) (now (records .exit))) ≡ copyScene request (membershipOf source) (membershipOf target) (tableOf state (now (keys .entry)) (now (times .entry)) (now (fields .entry)) (now (records .entry))) ⌝ }
+    ensures { λ r.
+        let before = tableOf state (now (keys .entry)) (now (times .entry)) (now (fields .entry)) (now (records .entry)) in
+        let after = tableOf (r .state) (now (keys .exit)) (now (times .exit)) (now (fields .exit)) (now (records .exit)) in
+        ⌜ resultOf (r .status) (r .save) after ≡ copyScene request (membershipOf source) (membershipOf target) before ⌝ }
 {
     state.copy_scene(
         keys,
@@ -268,8 +299,8 @@ pub extern "C" fn scenes_copy(
         fields,
         records,
         request,
-        membership(source),
-        membership(target),
+        Membership::of_number(source),
+        Membership::of_number(target),
     )
 }
 
@@ -285,9 +316,19 @@ pub extern "C" fn scenes_get_membership(
     key: GroupKey,
     member: u8,
 ) -> ListRead
-    ensures { λ r. ⌜ listedOf r (now (ids .exit)) ≡ getSceneMembership key (membershipOf member) (now (ids .entry)) (tableOf state (now (keys .entry)) (now (times .entry)) (now (fields .entry)) (now (records .entry))) ⌝ }
+    ensures { λ r.
+        let table = tableOf state (now (keys .entry)) (now (times .entry)) (now (fields .entry)) (now (records .entry)) in
+        ⌜ listedOf r (now (ids .exit)) ≡ getSceneMembership key (membershipOf member) (now (ids .entry)) table ⌝ }
 {
-    state.get_scene_membership(keys, times, fields, records, ids, key, membership(member))
+    state.get_scene_membership(
+        keys,
+        times,
+        fields,
+        records,
+        ids,
+        key,
+        Membership::of_number(member),
+    )
 }
 
 // The fabric's row of FabricSceneInfo on an endpoint; refused where `single` asks for one list element.
@@ -302,7 +343,9 @@ pub extern "C" fn scenes_read_info(
     endpoint: u16,
     single: u8,
 ) -> InfoRead
-    ensures { λ r. ⌜ r ≡ readFabricSceneInfo fabric endpoint (truthOf single) (tableOf state (now (keys .entry)) (now (times .entry)) (now (fields .entry)) (now (records .entry))) ⌝ }
+    ensures { λ r.
+        let table = tableOf state (now (keys .entry)) (now (times .entry)) (now (fields .entry)) (now (records .entry)) in
+        ⌜ r ≡ readFabricSceneInfo fabric endpoint (truthOf single) table ⌝ }
 {
     state.read_fabric_scene_info(
         keys,
@@ -315,7 +358,8 @@ pub extern "C" fn scenes_read_info(
     )
 }
 
-// Where the field bytes of the entry at a position lie in the lent slice: none past the entries or in a table that is not sound.
+// Where the field bytes of the entry at a position lie in the lent slice: 0 and 0 past the entries, with length 0, or in a table that is
+// not sound.
 #[no_mangle]
 pub extern "C" fn scenes_field_bytes(
     state: ScenesState,
@@ -325,11 +369,11 @@ pub extern "C" fn scenes_field_bytes(
     records: &[u64],
     at: usize,
 ) -> FieldBytes
-    ensures { λ r. ⌜ Within r (now (fields .entry)) (fieldBytes at (tableOf state (now (keys .entry)) (now (times .entry)) (now (fields .entry)) (now (records .entry)))) ⌝ }
+    ensures { λ r. ⌜ r ≡ fieldPlace at (tableOf state (now (keys .entry)) (now (times .entry)) (now (fields .entry)) (now (records .entry))) ⌝ }
 {
     let len = state.field_bytes(keys, times, fields, records, at).len();
     if len == 0 {
-        return FieldBytes { offset: 0, len };
+        return FieldBytes { offset: 0, len: 0 };
     }
     FieldBytes {
         offset: at * Slot::STRIDE + 1,
@@ -347,7 +391,10 @@ pub extern "C" fn scenes_attribute_changed(
     records: &mut [u64],
     endpoint: u16,
 ) -> Outcome
-    ensures { λ r. ⌜ resultOf (r .status) (r .save) (tableOf (r .state) (now (keys .entry)) (now (times .entry)) (now (fields .entry)) (now (records .exit))) ≡ scenableAttributeChanged endpoint (tableOf state (now (keys .entry)) (now (times .entry)) (now (fields .entry)) (now (records .entry))) ⌝ }
+    ensures { λ r.
+        let before = tableOf state (now (keys .entry)) (now (times .entry)) (now (fields .entry)) (now (records .entry)) in
+        let after = tableOf (r .state) (now (keys .entry)) (now (times .entry)) (now (fields .entry)) (now (records .exit)) in
+        ⌜ resultOf (r .status) (r .save) after ≡ scenableAttributeChanged endpoint before ⌝ }
 {
     state.scenable_attribute_changed(keys, times, fields, records, endpoint)
 }
@@ -362,7 +409,10 @@ pub extern "C" fn scenes_remove_fabric(
     records: &mut [u64],
     fabric: u8,
 ) -> Outcome
-    ensures { λ r. ⌜ resultOf (r .status) (r .save) (tableOf (r .state) (now (keys .exit)) (now (times .exit)) (now (fields .exit)) (now (records .exit))) ≡ removeForFabric fabric (tableOf state (now (keys .entry)) (now (times .entry)) (now (fields .entry)) (now (records .entry))) ⌝ }
+    ensures { λ r.
+        let before = tableOf state (now (keys .entry)) (now (times .entry)) (now (fields .entry)) (now (records .entry)) in
+        let after = tableOf (r .state) (now (keys .exit)) (now (times .exit)) (now (fields .exit)) (now (records .exit)) in
+        ⌜ resultOf (r .status) (r .save) after ≡ removeForFabric fabric before ⌝ }
 {
     state.remove_for_fabric(keys, times, fields, records, fabric)
 }
@@ -376,7 +426,10 @@ pub extern "C" fn scenes_factory_reset(
     fields: &[u8],
     records: &[u64],
 ) -> Outcome
-    ensures { λ r. ⌜ resultOf (r .status) (r .save) (tableOf (r .state) (now (keys .entry)) (now (times .entry)) (now (fields .entry)) (now (records .entry))) ≡ factoryReset (tableOf state (now (keys .entry)) (now (times .entry)) (now (fields .entry)) (now (records .entry))) ⌝ }
+    ensures { λ r.
+        let before = tableOf state (now (keys .entry)) (now (times .entry)) (now (fields .entry)) (now (records .entry)) in
+        let after = tableOf (r .state) (now (keys .entry)) (now (times .entry)) (now (fields .entry)) (now (records .entry)) in
+        ⌜ resultOf (r .status) (r .save) after ≡ factoryReset before ⌝ }
 {
     state.factory_reset(keys, times, fields, records)
 }
@@ -390,7 +443,10 @@ pub extern "C" fn scenes_startup(
     fields: &[u8],
     records: &[u64],
 ) -> Outcome
-    ensures { λ r. ⌜ resultOf (r .status) (r .save) (tableOf (r .state) (now (keys .entry)) (now (times .entry)) (now (fields .entry)) (now (records .entry))) ≡ startup (tableOf state (now (keys .entry)) (now (times .entry)) (now (fields .entry)) (now (records .entry))) ⌝ }
+    ensures { λ r.
+        let before = tableOf state (now (keys .entry)) (now (times .entry)) (now (fields .entry)) (now (records .entry)) in
+        let after = tableOf (r .state) (now (keys .entry)) (now (times .entry)) (now (fields .entry)) (now (records .entry)) in
+        ⌜ resultOf (r .status) (r .save) after ≡ startup before ⌝ }
 {
     state.startup(keys, times, fields, records)
 }
@@ -404,7 +460,10 @@ pub extern "C" fn scenes_fail_safe_commit(
     fields: &[u8],
     records: &[u64],
 ) -> Outcome
-    ensures { λ r. ⌜ resultOf (r .status) (r .save) (tableOf (r .state) (now (keys .entry)) (now (times .entry)) (now (fields .entry)) (now (records .entry))) ≡ failSafe (tableOf state (now (keys .entry)) (now (times .entry)) (now (fields .entry)) (now (records .entry))) ⌝ }
+    ensures { λ r.
+        let before = tableOf state (now (keys .entry)) (now (times .entry)) (now (fields .entry)) (now (records .entry)) in
+        let after = tableOf (r .state) (now (keys .entry)) (now (times .entry)) (now (fields .entry)) (now (records .entry)) in
+        ⌜ resultOf (r .status) (r .save) after ≡ failSafe before ⌝ }
 {
     state.fail_safe_commit(keys, times, fields, records)
 }
@@ -418,7 +477,10 @@ pub extern "C" fn scenes_fail_safe_expiry(
     fields: &[u8],
     records: &[u64],
 ) -> Outcome
-    ensures { λ r. ⌜ resultOf (r .status) (r .save) (tableOf (r .state) (now (keys .entry)) (now (times .entry)) (now (fields .entry)) (now (records .entry))) ≡ failSafe (tableOf state (now (keys .entry)) (now (times .entry)) (now (fields .entry)) (now (records .entry))) ⌝ }
+    ensures { λ r.
+        let before = tableOf state (now (keys .entry)) (now (times .entry)) (now (fields .entry)) (now (records .entry)) in
+        let after = tableOf (r .state) (now (keys .entry)) (now (times .entry)) (now (fields .entry)) (now (records .entry)) in
+        ⌜ resultOf (r .status) (r .save) after ≡ failSafe before ⌝ }
 {
     state.fail_safe_expiry(keys, times, fields, records)
 }

@@ -1,12 +1,12 @@
 -- `host::scenes_field_bytes` meets its contract. Assumes nothing.
-use Prim.Native.Nat.{ℕ}
+use Prim.Native.Nat.{ℕ, _+_, _*_, _<_}
 use mathlib.Core.Path.{_≡_, sym, ap, _∙_}
 use native.Mathlib.Omega.{arith}
 use lib.ListN.{length}
-use Rattle.slots.specs.Slots.{part}
+use Rattle.words.specs.Constants.{maxScenes, stride}
 use Rattle.scenes.specs.Table.{Table, tableOf}
 use Rattle.scenes.specs.Reads.{fieldBytes}
-use Rattle.host.proofs.Fields.{no-bytes, Located, located}
+use Rattle.host.proofs.Fields.{place-none, place-some, below-most}
 use borrow.Author.Needs.{needs}
 use Rattle.host.proofs.scenes_field_bytes.Statement.{statement}
 use Rattle.host.proofs.scenes_field_bytes.Tie as tie
@@ -18,17 +18,18 @@ came c = let a = c .before .before .before .before .before .args in tableOf (a .
 abbrev asked : tie.After-field-bytes → ℕ
 asked c = c .before .before .before .before .before .args .at
 
-place : (c : tie.Else1) → Located (asked (c .before)) (came (c .before))
-place c = located _ _ (λ e. c .if1 .left (ap length (c .before .field-bytes .ensures) ∙ e))
+-- as many bytes as the definition has
+size : (c : tie.After-field-bytes) → length (c .field-bytes .result .now) ≡ length (fieldBytes (asked c) (came c))
+size c = ap length (c .field-bytes .ensures)
+
+place : (c : tie.Else1) → asked (c .before) < maxScenes
+place c = below-most _ _ (λ e. c .if1 .left (size (c .before) ∙ e))
 
 field-bytes-requires : tie.Need-field-bytes-requires
 field-bytes-requires c κs = search needs
 
 returns : tie.Need-returns
-returns c = record {
-  inside = omega arith;
-  holds = ap (λ (n : ℕ). part 0 n (came (c .before) .slots .fields)) (c .if1 .taken) ∙ sym (no-bytes _ (c .if1 .taken)) ∙ c .before .field-bytes .ensures;
-}
+returns c = place-none (asked (c .before)) (came (c .before)) (sym (size (c .before)) ∙ c .if1 .taken)
 
 mul-t10 : tie.Need-mul-t10
 mul-t10 c = let l = place c in omega arith
@@ -38,9 +39,8 @@ add-t11 c = let l = place c in omega arith
 
 returns-2 : tie.Need-returns-2
 returns-2 c =
-    let l = place c in
-    let n : length (c .before .field-bytes .result .now) ≡ length (fieldBytes (asked (c .before)) (came (c .before))) = ap length (c .before .field-bytes .ensures) in
-    record { inside = omega arith; holds = rw n (l .holds) }
+    (λ i. record { offset = asked (c .before) * stride + 1; len = size (c .before) i })
+    ∙ place-some (asked (c .before)) (came (c .before)) (λ e. c .if1 .left (size (c .before) ∙ e))
 
 pub scenes-field-bytes-spec : {M : Type 1} → statement M
 scenes-field-bytes-spec = tie.close (tie.spec field-bytes-requires returns mul-t10 add-t11 returns-2)

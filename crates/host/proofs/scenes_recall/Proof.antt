@@ -1,10 +1,13 @@
 -- `host::scenes_recall` meets its contract. Assumes nothing.
+use mathlib.Core.Path.{_∙_}
+use Rattle.scenes.specs.Table.{tableOf}
+use Rattle.scenes.specs.Commands.{recallScene}
 use borrow.Author.Needs.{needs}
 use Rattle.host.proofs.scenes_recall.Statement.{statement}
 use Rattle.host.proofs.scenes_recall.Tie as tie
 
-membership-requires : tie.Need-membership-requires
-membership-requires c κs = search needs
+of-number-requires : tie.Need-of-number-requires
+of-number-requires c κs = search needs
 
 application-requires : tie.Need-application-requires
 application-requires c κs = search needs
@@ -16,9 +19,13 @@ same-length : tie.Need-same-length
 same-length c = search needs
 
 returns : tie.Need-returns
-returns c = let d = c .before .before in rw (← d .before .before .membership .ensures, ← d .before .application .ensures) (d .recall-scene .ensures)
+returns c =
+    let d = c .before .before in
+    let a = d .before .before .before .before .before .before .before .before .args in
+    let t = tableOf (a .state) (a .keys .now) (a .times .now) (a .fields .now) (a .records .now) in
+    d .recall-scene .ensures ∙ (λ i. recallScene (a .key) (d .before .before .of-number .ensures i) (d .before .application .ensures i) t)
 
 pub scenes-recall-spec : {M : Type 1} → statement M
 scenes-recall-spec =
     tie.close
-    (tie.spec membership-requires application-requires recall-scene-requires same-length returns)
+    (tie.spec of-number-requires application-requires recall-scene-requires same-length returns)

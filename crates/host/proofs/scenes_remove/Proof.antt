@@ -3,8 +3,8 @@ use borrow.Author.Needs.{needs}
 use Rattle.host.proofs.scenes_remove.Statement.{statement}
 use Rattle.host.proofs.scenes_remove.Tie as tie
 
-membership-requires : tie.Need-membership-requires
-membership-requires c κs = search needs
+of-number-requires : tie.Need-of-number-requires
+of-number-requires c κs = search needs
 
 remove-scene-requires : tie.Need-remove-scene-requires
 remove-scene-requires c κs = search needs
@@ -22,13 +22,13 @@ same-length-4 : tie.Need-same-length-4
 same-length-4 c = search needs
 
 returns : tie.Need-returns
-returns c = let d = c .before .before .before .before .before .before .before .before in rw (← d .before .membership .ensures) (d .remove-scene .ensures)
+returns c = let d = c .before .before .before .before .before .before .before .before in rw (← d .before .of-number .ensures) (d .remove-scene .ensures)
 
 pub scenes-remove-spec : {M : Type 1} → statement M
 scenes-remove-spec =
     tie.close
     (tie.spec
-    membership-requires
+    of-number-requires
     remove-scene-requires
     same-length
     same-length-2

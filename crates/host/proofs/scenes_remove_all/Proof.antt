@@ -3,8 +3,8 @@ use borrow.Author.Needs.{needs}
 use Rattle.host.proofs.scenes_remove_all.Statement.{statement}
 use Rattle.host.proofs.scenes_remove_all.Tie as tie
 
-membership-requires : tie.Need-membership-requires
-membership-requires c κs = search needs
+of-number-requires : tie.Need-of-number-requires
+of-number-requires c κs = search needs
 
 remove-all-scenes-requires : tie.Need-remove-all-scenes-requires
 remove-all-scenes-requires c κs = search needs
@@ -22,13 +22,13 @@ same-length-4 : tie.Need-same-length-4
 same-length-4 c = search needs
 
 returns : tie.Need-returns
-returns c = let d = c .before .before .before .before .before .before .before .before in rw (← d .before .membership .ensures) (d .remove-all-scenes .ensures)
+returns c = let d = c .before .before .before .before .before .before .before .before in rw (← d .before .of-number .ensures) (d .remove-all-scenes .ensures)
 
 pub scenes-remove-all-spec : {M : Type 1} → statement M
 scenes-remove-all-spec =
     tie.close
     (tie.spec
-    membership-requires
+    of-number-requires
     remove-all-scenes-requires
     same-length
     same-length-2

@@ -3,14 +3,14 @@ use borrow.Author.Needs.{needs}
 use Rattle.host.proofs.scenes_view.Statement.{statement}
 use Rattle.host.proofs.scenes_view.Tie as tie
 
-membership-requires : tie.Need-membership-requires
-membership-requires c κs = search needs
+of-number-requires : tie.Need-of-number-requires
+of-number-requires c κs = search needs
 
 view-scene-requires : tie.Need-view-scene-requires
 view-scene-requires c κs = search needs
 
 returns : tie.Need-returns
-returns c = rw (← c .before .membership .ensures) (c .view-scene .ensures)
+returns c = rw (← c .before .of-number .ensures) (c .view-scene .ensures)
 
 pub scenes-view-spec : {M : Type 1} → statement M
-scenes-view-spec = tie.close (tie.spec membership-requires view-scene-requires returns)
+scenes-view-spec = tie.close (tie.spec of-number-requires view-scene-requires returns)
