@@ -3,15 +3,18 @@ use libc::STDIN_FILENO;
 use libc::STDOUT_FILENO;
 use script::Machine;
 use script::Ran;
+ghost use Prim.Native.Nat.{_+_, _≤_};
+ghost use lib.ListN.{length};
+ghost use Rattle.words.specs.Constants.{maxScenes};
+ghost use Rattle.console.specs.Whole.{longest, mostHeld, heldAnswer, Whole};
 
 // A line has fewer bytes than this: 128 field bytes take 256 digits, and longer ones are to be refused by the table.
 const LINE: usize = 0x4_0000;
 
 const CHUNK: usize = 0x1_0000;
 
-// The output buffer, and how much is held before it is written out. The longest answer to a line, a dump of 1,024 entries with 128
-// field bytes each, fits in what is left.
-const OUT: usize = 0x8_0000;
+// The output buffer, and how much is held before it is written out: the longest answer to a line fits in what is left.
+const OUT: usize = 0x9_0000;
 
 const HELD: usize = 0x1_0000;
 
@@ -37,7 +40,7 @@ fn flush(out: &[u8], at: usize) -> bool {
     io::write_all(STDOUT_FILENO, out)
 }
 
-// Runs the line that the buffer holds. A line that fills it is too long.
+// Runs the line that the buffer holds. A line that fills it is too long. The answer stands whole in the output.
 fn run_held(
     machine: Machine,
     keys: &mut [u64],
@@ -49,7 +52,16 @@ fn run_held(
     held: usize,
     out: &mut [u8],
     at: usize,
-) -> Ran {
+) -> Ran
+    requires { ⌜ length (now keys) ≤ maxScenes ⌝ }
+    requires { ⌜ length (now records) ≤ maxScenes ⌝ }
+    requires { ⌜ length (now ids) ≤ maxScenes ⌝ }
+    requires { ⌜ at + longest ≤ length (now out) ⌝ }
+    ensures { λ r.
+        let answer = heldAnswer machine (now (keys .entry)) (now (times .entry)) (now (fields .entry)) (now (records .entry))
+        (now (ids .entry)) (now (line .entry)) held in
+        ⌜ Whole answer (now (out .entry)) at (now (out .exit)) (r .at) ⌝ }
+{
     if held < line.len() {
         return script::run_line(
             machine,
@@ -78,7 +90,14 @@ fn step(
     held: usize,
     out: &mut [u8],
     at: usize,
-) -> Stepped {
+) -> Stepped
+    requires { ⌜ length (now keys) ≤ maxScenes ⌝ }
+    requires { ⌜ length (now records) ≤ maxScenes ⌝ }
+    requires { ⌜ length (now ids) ≤ maxScenes ⌝ }
+    requires { ⌜ at ≤ mostHeld ⌝ }
+    requires { ⌜ mostHeld + longest ≤ length (now out) ⌝ }
+    ensures { λ r. ⌜ r .at ≤ mostHeld ⌝ }
+{
     let ran = run_held(
         machine,
         keys,
@@ -119,7 +138,12 @@ fn feed(
     before: usize,
     chunk: &[u8],
     out: &mut [u8],
-) -> Fed {
+) -> Fed
+    requires { ⌜ length (now keys) ≤ maxScenes ⌝ }
+    requires { ⌜ length (now records) ≤ maxScenes ⌝ }
+    requires { ⌜ length (now ids) ≤ maxScenes ⌝ }
+    requires { ⌜ mostHeld + longest ≤ length (now out) ⌝ }
+{
     let mut held = before;
     let mut from = 0;
     let mut at = 0;
@@ -148,7 +172,15 @@ fn feed(
     }
 }
 
-// Reads standard input to its end, in chunks, and runs its lines. The last one may lack its end.
+// Tells that the input cannot be read on. A line that was gathered in part is not run: nobody knows its rest.
+fn tell_failed(machine: Machine, out: &mut [u8]) -> bool {
+    let told = script::read_failed(machine, out, 0);
+    let end = told.at;
+    flush(out, end)
+}
+
+// Reads standard input to its end, in chunks, and runs its lines. The last one may lack its end. No signal is handled here, so that no
+// read is interrupted: one that fails ends the run.
 fn run(
     machine: Machine,
     keys: &mut [u64],
@@ -159,14 +191,23 @@ fn run(
     line: &mut [u8],
     chunk: &mut [u8],
     out: &mut [u8],
-) {
+)
+    requires { ⌜ length (now keys) ≤ maxScenes ⌝ }
+    requires { ⌜ length (now records) ≤ maxScenes ⌝ }
+    requires { ⌜ length (now ids) ≤ maxScenes ⌝ }
+    requires { ⌜ mostHeld + longest ≤ length (now out) ⌝ }
+{
     let mut m = machine;
     let mut held = 0;
     // Nothing says that the input ends: the turns are counted down, from a number that no run uses up.
     let mut turns = u64::MAX;
     while 0 < turns {
         let got = libc::read(STDIN_FILENO, chunk);
-        if got <= 0 {
+        if got < 0 {
+            tell_failed(m, out);
+            return;
+        }
+        if got == 0 {
             break;
         }
         let n = io::count(got, chunk);

@@ -5,3 +5,4 @@ pub mod Letters
 pub mod LineLaws
 pub mod CallLaws
 pub mod RunLaws
+pub mod Lengths

@@ -18,17 +18,17 @@ use Rattle.script.specs.Calls.{doneOf, Called, calledOf, valueAt, call, 
 use Rattle.script.specs.Lines.{oneOf, kindsOf, Meaning, wordRead}
 use Rattle.script.specs.Running.{sized, withState, Ended, Session, session, tableIn, answered, wrong, answeredCall, called, obeyed, numbers, texts}
 
--- a line that leaves the lent memory and the list buffer as they were
-pub ended : (n m : Machine) (k t f w ids : List ℕ) (written : Sheet → Sheet) (out after : List ℕ) (at : ℕ) (r : Ran) → Ended m written out at after r
-    → session (r .machine) k t f w ids (sheet after (r .at)) ≡ answered m written (session n k t f w ids (sheet out at))
-ended n m k t f w ids written out after at r e = λ i. session (e .machine i) k t f w ids (e .output i)
+-- a line that leaves the lent memory, the list buffer and the line as they were
+pub ended : (n m : Machine) (k t f w ids line : List ℕ) (written : Sheet → Sheet) (out after : List ℕ) (at : ℕ) (r : Ran) → Ended m written out at after r
+    → session (r .machine) k t f w ids line (sheet after (r .at)) ≡ answered m written (session n k t f w ids line (sheet out at))
+ended n m k t f w ids line written out after at r e = λ i. session (e .machine i) k t f w ids line (e .output i)
 
 -- a call of the table
 pub called-ends : (s : Session) (letter : ℕ) (a : Answer) (k t f w ids : List ℕ) (o : Sheet) (c : Called)
     → o ≡ answerLine (s .machine .trace) letter a ids (tableOf (a .state) k t f w) (s .output)
     → calledOf (doneOf a (tableOf (a .state) k t f w)) ids ≡ c
-    → session (withState (a .state) (s .machine)) k t f w ids o ≡ answeredCall letter c s
-called-ends s letter a k t f w ids o c p q = ap (session (withState (a .state) (s .machine)) k t f w ids) p ∙ ap (λ (x : Called). answeredCall letter x s) q
+    → session (withState (a .state) (s .machine)) k t f w ids (s .line) o ≡ answeredCall letter c s
+called-ends s letter a k t f w ids o c p q = ap (session (withState (a .state) (s .machine)) k t f w ids (s .line)) p ∙ ap (λ (x : Called). answeredCall letter x s) q
 
 -- what an understood line asks for
 module _ (letter : ℕ) (values : List ℕ) (bytes : ℕ → List ℕ) (s : Session) where

@@ -82,8 +82,8 @@ recordLine word = (32 ∷ 114 ∷ []) ∷ keyTexts (keyOfRecord word) ++ (spaced
 abbrev pub countsLine : ScenesState → List (List ℕ)
 countsLine state = (68 ∷ []) ∷ number (state .entries) ∷ number (state .recorded) ∷ number (state .dataver) ∷ newline ∷ []
 
--- the counts, then a line for each entry and for each record
+-- the counts, then a line for each entry and for each record that the lent slices have: in a sound table, for all of them
 unfoldable pub tableLines : Table → Sheet → Sheet
 tableLines t s =
-    writesBelow (λ i. recordLine (getD (t .records) i 0)) (t .state .recorded)
-    (writesBelow (entryLine t) (t .state .entries) (writes (countsLine (t .state)) s))
+    writesBelow (λ i. recordLine (getD (t .records) i 0)) (min (t .state .recorded) (length (t .records)))
+    (writesBelow (entryLine t) (min (t .state .entries) (length (t .slots .keys))) (writes (countsLine (t .state)) s))

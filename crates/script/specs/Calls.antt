@@ -10,9 +10,8 @@ use Rattle.words.specs.Conditions.{allOf}
 use Rattle.words.specs.Words.{wordOf, validRecord}
 use Rattle.words.specs.declared.SceneKey.{SceneKey}
 use Rattle.words.specs.declared.GroupKey.{GroupKey}
-use Rattle.requests.specs.declared.Membership.{Membership}
-use Rattle.requests.specs.declared.Membership.the-variants.{Yes, No, Failed}
 use Rattle.requests.specs.declared.CopyRequest.{CopyRequest}
+use Rattle.requests.specs.Requests.{membershipOf}
 use Rattle.scenes.specs.declared.ScenesState.{ScenesState}
 use Rattle.scenes.specs.declared.Applied.{Applied}
 use Rattle.scenes.specs.declared.Transition.{Transition}
@@ -80,9 +79,6 @@ valueAt values i = getD values i 0
 abbrev pub bytesAt : Line → List ℕ → ℕ → List ℕ
 bytesAt read line i = take (getD (read .values) i 0) (drop (getD (read .starts) i 0) line)
 
-abbrev pub membership : ℕ → Membership
-membership value = cond (eqb value 0) No (cond (eqb value 1) Yes Failed)
-
 abbrev pub applied : ℕ → Applied
 applied value = cond (eqb value 0) applying.Failed applying.Yes
 
@@ -115,23 +111,23 @@ copyRequest values = record {
 
 -- A, with the pairs and the fields
 unfoldable pub add : List ℕ → List ℕ → List ℕ → Table → Done
-add values pairs ext t = plain (addScene (sceneKey values) (long (valueAt values 4)) (membership (valueAt values 5)) pairs ext t)
+add values pairs ext t = plain (addScene (sceneKey values) (long (valueAt values 4)) (membershipOf (byte (valueAt values 5))) pairs ext t)
 
 -- S, with the captured bytes
 unfoldable pub store : List ℕ → List ℕ → Table → Done
-store values captured t = plain (storeScene (sceneKey values) (membership (valueAt values 4)) captured t)
+store values captured t = plain (storeScene (sceneKey values) (membershipOf (byte (valueAt values 4))) captured t)
 
 -- R
 unfoldable pub remove : List ℕ → Table → Done
-remove values t = plain (removeScene (sceneKey values) (membership (valueAt values 4)) t)
+remove values t = plain (removeScene (sceneKey values) (membershipOf (byte (valueAt values 4))) t)
 
 -- X
 unfoldable pub removeAll : List ℕ → Table → Done
-removeAll values t = plain (removeAllScenes (groupKey values) (membership (valueAt values 3)) t)
+removeAll values t = plain (removeAllScenes (groupKey values) (membershipOf (byte (valueAt values 3))) t)
 
 -- C
 unfoldable pub copy : List ℕ → Table → Done
-copy values t = plain (copyScene (copyRequest values) (membership (valueAt values 7)) (membership (valueAt values 8)) t)
+copy values t = plain (copyScene (copyRequest values) (membershipOf (byte (valueAt values 7))) (membershipOf (byte (valueAt values 8))) t)
 
 -- by letter, C for any other; the bytes of a word by its position
 unfoldable pub command : ℕ → List ℕ → (ℕ → List ℕ) → Table → Done
@@ -153,7 +149,7 @@ viewed found t = readOf (found .status) (sceneTail found) t
 
 -- V
 unfoldable pub view : List ℕ → Table → Done
-view values t = viewed (viewScene (sceneKey values) (membership (valueAt values 4)) t) t
+view values t = viewed (viewScene (sceneKey values) (membershipOf (byte (valueAt values 4))) t) t
 
 -- the lookup's scene with the recall's end
 abbrev pub recalled : SceneRead → Result → Done
@@ -162,8 +158,8 @@ recalled found r = record { status = r .status; save = r .save; tail = sceneTail
 -- L
 unfoldable pub recall : List ℕ → Table → Done
 recall values t =
-    recalled (recallLookup (sceneKey values) (membership (valueAt values 4)) (transition (valueAt values 5)) t)
-    (recallScene (sceneKey values) (membership (valueAt values 4)) (applied (valueAt values 6)) t)
+    recalled (recallLookup (sceneKey values) (membershipOf (byte (valueAt values 4))) (transition (valueAt values 5)) t)
+    (recallScene (sceneKey values) (membershipOf (byte (valueAt values 4))) (applied (valueAt values 6)) t)
 
 abbrev pub infoTail : InfoRead → Tail
 infoTail info =
@@ -194,7 +190,7 @@ abbrev pub listed : Listed → Table → Called
 listed l t = calledOf (readOf (l .read .status) (listTail (l .read)) t) (l .ids)
 
 unfoldable pub list : List ℕ → List ℕ → Table → Called
-list values ids t = listed (getSceneMembership (groupKey values) (membership (valueAt values 3)) ids t) t
+list values ids t = listed (getSceneMembership (groupKey values) (membershipOf (byte (valueAt values 3))) ids t) t
 
 -- M: the front of the buffer that the line asks for, or all of it; the rest stays
 unfoldable pub listIn : List ℕ → List ℕ → Table → Called

@@ -1,14 +1,15 @@
--- What a line says: nothing, why it is not understood, or a letter with what its words say. Characters are their ASCII codes.
-use Prim.Native.Nat.{ℕ, _-_, _^_, _≤_, min}
+-- What a line says: nothing, why it is not understood, or a letter with what its words say; and what it holds once it was read.
+-- Characters are their ASCII codes.
+use Prim.Native.Nat.{ℕ, _-_, _^_}
 use mathlib.Core.Path.{_≡_}
-use mathlib.Core.Bool.{Bool, true, false, cond, _&&_}
+use mathlib.Core.Bool.{Bool, true, false, cond}
 use mathlib.Core.List.{List, [], _∷_, _++_, map}
 use lib.Dec.{eqb}
 use lib.ListN.{length, getD, take, drop}
 use Rattle.words.specs.Below.{positions}
 use Rattle.text.specs.declared.input.Reason.{Reason}
 use Rattle.text.specs.declared.input.Word.{Word}
-use Rattle.text.specs.Reading.{blank, inWord, leading, numberOf, Spelled, Bytes, Refused, inFront, orDash, hexPairs, digitBytes}
+use Rattle.text.specs.Reading.{blank, inWord, leading, wordFrom, numberOf, same, Spelled, Bytes, Refused, orDash, hexPairs, digitBytes, Turned, turned, laid}
 use Rattle.script.specs.declared.reader.Kind.{Kind}
 use Rattle.script.specs.declared.reader.Kind.the-variants.{End, Byte, Short, Long, Member, Flag, Size, Digits, Hex, Override, Length}
 use Rattle.script.specs.declared.reader.Verdict.{Verdict}
@@ -70,12 +71,6 @@ abbrev pub spelling : Spelled → Meaning
 spelling (Bytes bytes) = Text bytes
 spelling (Refused r) = Unclear r
 
-unfoldable pub same : List ℕ → List ℕ → Bool
-same [] [] = true
-same [] (y ∷ ys) = false
-same (x ∷ xs) [] = false
-same (x ∷ xs) (y ∷ ys) = eqb x y && same xs ys
-
 -- `-` or `null`, which stands for no override, as 2^32; else a time
 unfoldable pub overrideOf : List ℕ → Word
 overrideOf w = cond (same w (45 ∷ [])) (word.Value (2 ^ 32)) (cond (same w (110 ∷ 117 ∷ 108 ∷ 108 ∷ [])) (word.Value (2 ^ 32)) (numberOf (2 ^ 32 - 1) w))
@@ -100,7 +95,7 @@ spells Length = false
 
 -- what a word of a kind says; a missing length is 1,024
 abbrev pub wordSays : Bool → Kind → List ℕ → Meaning
-wordSays trace End w = cond (eqb (length w) 0) (Number 0) (Unclear reason.TooMany)
+wordSays trace End w = numeral (cond (eqb (length w) 0) (word.Value 0) (word.Wrong reason.TooMany))
 wordSays trace Byte w = numeral (numberOf 255 w)
 wordSays trace Short w = numeral (numberOf 65535 w)
 wordSays trace Long w = numeral (numberOf (2 ^ 32 - 1) w)
@@ -110,18 +105,33 @@ wordSays trace Size w = numeral (numberOf (mostScenes trace) w)
 wordSays trace Digits w = spelling (orDash w (digitBytes w))
 wordSays trace Hex w = spelling (orDash w (hexPairs w))
 wordSays trace Override w = numeral (overrideOf w)
-wordSays trace Length w = cond (eqb (length w) 0) (Number 1024) (numeral (numberOf 1024 w))
+wordSays trace Length w = numeral (cond (eqb (length w) 0) (word.Value 1024) (numberOf 1024 w))
 
--- a count that is at most the length of a word
-abbrev pub inFrontOf : ℕ → Word → Word
-inFrontOf len (word.Value n) = word.Value (min n len)
-inFrontOf len (word.Wrong r) = word.Wrong r
+-- what the reader answers: a number, or how many bytes the word spells
+abbrev pub wordAnswer : Meaning → Word
+wordAnswer (Number n) = word.Value n
+wordAnswer (Text bytes) = word.Value (length bytes)
+wordAnswer (Unclear r) = word.Wrong r
+
+-- what a word holds once it was read: the bytes that it spells in its front; every other word, and one that is not understood, stays
+abbrev pub wordLeft : Meaning → List ℕ → List ℕ
+wordLeft (Number n) w = w
+wordLeft (Text bytes) w = laid bytes w
+wordLeft (Unclear r) w = w
+
+-- both, of a word that says something
+abbrev pub readAs : Meaning → List ℕ → Turned
+readAs m w = turned (wordAnswer m) (wordLeft m w)
 
 -- what was read as a word, in the front of a text
 abbrev pub meaning : Kind → Word → List ℕ → Meaning
-meaning kind w text = cond (spells kind) (spelling (inFront w text)) (numeral w)
+meaning kind (word.Value n) text = cond (spells kind) (Text (take n text)) (Number n)
+meaning kind (word.Wrong r) text = Unclear r
 
 -- ---- the words of a text
+
+abbrev pub blanks : List ℕ → List ℕ
+blanks text = take (leading blank text) text
 
 abbrev pub afterBlanks : List ℕ → List ℕ
 afterBlanks text = drop (leading blank text) text
@@ -165,16 +175,37 @@ lineSays trace line =
     (cond (eqb (getD text 0 0) 35) Nothing
     (cond (eqb (length (firstWord line)) 1) (letterSays trace (getD text 0 0) (behindWord line)) (Wrong reason.Unknown)))
 
+-- ---- what a line holds once it was read
+
+-- whether the reader goes on behind a word
+abbrev pub understood : Meaning → Bool
+understood (Number n) = true
+understood (Text bytes) = true
+understood (Unclear r) = false
+
+-- the words in order, up to and with the first that is not understood; what stands behind it stays
+unfoldable pub wordsLeft : Bool → List Kind → List ℕ → List ℕ
+wordsLeft trace [] text = text
+wordsLeft trace (k ∷ ks) text =
+    blanks text
+    ++ (wordLeft (wordSays trace k (firstWord text)) (firstWord text)
+    ++ cond (understood (wordSays trace k (firstWord text))) (wordsLeft trace ks (behindWord text)) (behindWord text))
+
+-- behind a letter that is known; every other line stays
+unfoldable pub lineLeft : Bool → List ℕ → List ℕ
+lineLeft trace line =
+    let letter : ℕ = getD (afterBlanks line) 0 0 in
+    cond (eqb (length (firstWord line)) 1)
+    (cond (known letter trace) (blanks line ++ (firstWord line ++ wordsLeft trace (kindsOf letter) (behindWord line))) line)
+    line
+
 -- ---- what was read
 
--- a word that was read from a position on: it alone was changed, and later changes behind it do not matter
+-- a word that was read from a position on: where it stands, what it says, and the line with the word as it is left
 pub record ReadsNext (trace : Bool) (kind : Kind) (line : List ℕ) (at : ℕ) (after : List ℕ) (r : Reading) : Type 0 where
-  pub from : at ≤ r .from
-  pub order : r .from ≤ r .to
-  pub within : r .to ≤ length line
-  pub before : take (r .from) after ≡ take (r .from) line
-  pub rest : drop (r .to) after ≡ behindWord (drop at line)
-  pub says : (later : List ℕ) → take (r .to) later ≡ take (r .to) after → meaning kind (r .word) (drop (r .from) later) ≡ wordSays trace kind (firstWord (drop at line))
+  pub span : record { from = r .from; to = r .to } ≡ wordFrom line at
+  pub answer : r .word ≡ wordAnswer (wordSays trace kind (firstWord (drop at line)))
+  pub left : after ≡ take (r .from) line ++ (wordLeft (wordSays trace kind (firstWord (drop at line))) (firstWord (drop at line)) ++ drop (r .to) line)
 
 -- the word at a position
 abbrev pub wordRead : List Kind → List ℕ → List ℕ → List ℕ → ℕ → Meaning
@@ -188,3 +219,8 @@ verdictSays verdict.Call read line = Call (read .letter) (map (wordRead (kindsOf
 
 abbrev pub saidOf : Line → List ℕ → Said
 saidOf read line = verdictSays (read .verdict) read line
+
+-- a line that was read says something, and is left in a known way
+pub record ReadsLine (said : Said) (left : List ℕ) (after : List ℕ) (r : Line) : Type 0 where
+  pub says : saidOf r after ≡ said
+  pub line : after ≡ left

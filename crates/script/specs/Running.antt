@@ -1,4 +1,4 @@
--- What a line leaves: the machine, the lent memory, the list buffer and the output.
+-- What a line leaves: the machine, the lent memory, the list buffer, the line itself and the output.
 use Prim.Native.Nat.{ℕ, _+_, _%_, _^_}
 use mathlib.Core.Path.{_≡_}
 use mathlib.Core.Bool.{Bool, true, false, cond}
@@ -15,7 +15,7 @@ use Rattle.text.specs.declared.input.Reason.the-variants.{NoTable}
 use Rattle.text.specs.Writing.{Sheet, sheet, writes}
 use Rattle.text.specs.Errors.{errorLine}
 use Rattle.script.specs.Answers.{sizeLine, answerLine, tableLines}
-use Rattle.script.specs.Lines.{Meaning, Number, Text, Unclear, Said, Nothing, Wrong, Call, lineSays}
+use Rattle.script.specs.Lines.{Meaning, Number, Text, Unclear, Said, Nothing, Wrong, Call, lineSays, lineLeft}
 use Rattle.script.specs.Calls.{Called, answerOf, valueAt, call}
 
 -- ---- the machine
@@ -47,18 +47,19 @@ pub record Session : Type 0 where
   pub slots : Slots
   pub records : List ℕ
   pub ids : List ℕ
+  pub line : List ℕ
   pub output : Sheet
 
--- the machine, keys, times, fields, records, the list buffer and the output
-abbrev pub session : Machine → List ℕ → List ℕ → List ℕ → List ℕ → List ℕ → Sheet → Session
-session m k t f r ids output = record { machine = m; slots = slotsOf k t f; records = r; ids = ids; output = output }
+-- the machine, keys, times, fields, records, the list buffer, the line and the output
+abbrev pub session : Machine → List ℕ → List ℕ → List ℕ → List ℕ → List ℕ → List ℕ → Sheet → Session
+session m k t f r ids line output = record { machine = m; slots = slotsOf k t f; records = r; ids = ids; line = line; output = output }
 
 abbrev pub tableIn : Session → Table
 tableIn s = record { state = s .machine .state; slots = s .slots; records = s .records }
 
--- another machine and more output; the lent memory and the list buffer stay as they were
+-- another machine and more output; all else stays as it was
 abbrev pub answered : Machine → (Sheet → Sheet) → Session → Session
-answered m written s = record { machine = m; slots = s .slots; records = s .records; ids = s .ids; output = written (s .output) }
+answered m written s = record { machine = m; slots = s .slots; records = s .records; ids = s .ids; line = s .line; output = written (s .output) }
 
 -- the line is not understood
 abbrev pub wrong : Reason → Session → Session
@@ -71,6 +72,7 @@ answeredCall letter c s = record {
   slots = c .done .table .slots;
   records = c .done .table .records;
   ids = c .ids;
+  line = s .line;
   output = answerLine (s .machine .trace) letter (answerOf (c .done)) (c .ids) (c .done .table) (s .output);
 }
 
@@ -112,6 +114,17 @@ saidRuns Nothing s = s
 saidRuns (Wrong reason) s = wrong reason s
 saidRuns (Call letter words) s = obeyed letter (numbers words) (texts words) s
 
+-- the line once it was read
+abbrev pub lineRead : Session → Session
+lineRead s = record {
+  machine = s .machine;
+  slots = s .slots;
+  records = s .records;
+  ids = s .ids;
+  line = lineLeft (s .machine .trace) (s .line);
+  output = s .output;
+}
+
 -- one line, by its text alone
-abbrev pub runLine : List ℕ → Session → Session
-runLine line s = saidRuns (lineSays (s .machine .trace) line) s
+abbrev pub runLine : Session → Session
+runLine s = saidRuns (lineSays (s .machine .trace) (s .line)) (lineRead s)

@@ -10,6 +10,7 @@ use text::put_flag;
 use text::put_number;
 use text::put_status;
 use text::put_text;
+use words::least;
 ghost use mathlib.Core.Path.{_≡_};
 ghost use mathlib.Core.List.{[], _∷_};
 ghost use Prim.Native.Nat.{min};
@@ -48,15 +49,11 @@ fn put_row(out: &mut [u8], at: usize, row: Row) -> usize
     put_number(out, remaining, row.fabric as u64)
 }
 
-pub(crate) fn least(a: usize, b: usize) -> usize
-    ensures { λ r. ⌜ r ≡ min a b ⌝ }
-{
-    if b < a { b } else { a }
-}
-
 // The first ids of a list, each behind a blank.
 fn put_ids(out: &mut [u8], at: usize, ids: &[u8], len: usize) -> usize
-    ensures { λ r. ⌜ sheet (now (out .exit)) r ≡ writesBelow (λ i. number (getD (now (ids .entry)) i 0) ∷ []) (min len (length (now (ids .entry)))) (sheet (now (out .entry)) at) ⌝ }
+    ensures { λ r.
+        let listed = now (ids .entry) in
+        ⌜ sheet (now (out .exit)) r ≡ writesBelow (λ i. number (getD listed i 0) ∷ []) (min len (length listed)) (sheet (now (out .entry)) at) ⌝ }
 {
     let n = least(len, ids.len());
     let mut next = at;
@@ -95,7 +92,9 @@ fn put_tail(
     records: &[u64],
     ids: &[u8],
 ) -> usize
-    ensures { λ r. ⌜ sheet (now (out .exit)) r ≡ tailOf (answer .tail) (now (ids .entry)) (tableOf (answer .state) (now (keys .entry)) (now (times .entry)) (now (fields .entry)) (now (records .entry))) (sheet (now (out .entry)) at) ⌝ }
+    ensures { λ r.
+        let table = tableOf (answer .state) (now (keys .entry)) (now (times .entry)) (now (fields .entry)) (now (records .entry)) in
+        ⌜ sheet (now (out .exit)) r ≡ tailOf (answer .tail) (now (ids .entry)) table (sheet (now (out .entry)) at) ⌝ }
 {
     let tail = answer.tail;
     let state = answer.state;
@@ -141,7 +140,9 @@ pub(crate) fn put_answer(
     records: &[u64],
     ids: &[u8],
 ) -> usize
-    ensures { λ r. ⌜ sheet (now (out .exit)) r ≡ answerLine trace letter answer (now (ids .entry)) (tableOf (answer .state) (now (keys .entry)) (now (times .entry)) (now (fields .entry)) (now (records .entry))) (sheet (now (out .entry)) at) ⌝ }
+    ensures { λ r.
+        let table = tableOf (answer .state) (now (keys .entry)) (now (times .entry)) (now (fields .entry)) (now (records .entry)) in
+        ⌜ sheet (now (out .exit)) r ≡ answerLine trace letter answer (now (ids .entry)) table (sheet (now (out .entry)) at) ⌝ }
 {
     let head = put_head(out, at, trace, letter, answer);
     let tail = put_tail(out, head, answer, keys, times, fields, records, ids);
@@ -199,7 +200,9 @@ fn put_entry_at(
     records: &[u64],
     i: usize,
 ) -> usize
-    ensures { λ r. ⌜ sheet (now (out .exit)) r ≡ writes (entryLine (tableOf state (now (keys .entry)) (now (times .entry)) (now (fields .entry)) (now (records .entry))) i) (sheet (now (out .entry)) at) ⌝ }
+    ensures { λ r.
+        let table = tableOf state (now (keys .entry)) (now (times .entry)) (now (fields .entry)) (now (records .entry)) in
+        ⌜ sheet (now (out .exit)) r ≡ writes (entryLine table i) (sheet (now (out .entry)) at) ⌝ }
 {
     let word = word_at(keys, i);
     let time = time_at(times, i);
@@ -228,18 +231,21 @@ fn put_counts(out: &mut [u8], at: usize, state: ScenesState) -> usize
     end_line(out, version)
 }
 
+// The lines of the first n entries.
 fn put_entries(
     out: &mut [u8],
     at: usize,
     state: ScenesState,
+    n: usize,
     keys: &[u64],
     times: &[u32],
     fields: &[u8],
     records: &[u64],
 ) -> usize
-    ensures { λ r. ⌜ sheet (now (out .exit)) r ≡ writesBelow (entryLine (tableOf state (now (keys .entry)) (now (times .entry)) (now (fields .entry)) (now (records .entry)))) (state .entries) (sheet (now (out .entry)) at) ⌝ }
+    ensures { λ r.
+        let table = tableOf state (now (keys .entry)) (now (times .entry)) (now (fields .entry)) (now (records .entry)) in
+        ⌜ sheet (now (out .exit)) r ≡ writesBelow (entryLine table) n (sheet (now (out .entry)) at) ⌝ }
 {
-    let n = state.entries;
     let mut next = at;
     let mut i = 0;
     while i < n {
@@ -249,6 +255,7 @@ fn put_entries(
     next
 }
 
+// The lines of the first n records.
 fn put_records(out: &mut [u8], at: usize, n: usize, records: &[u64]) -> usize
     ensures { λ r. ⌜ sheet (now (out .exit)) r ≡ writesBelow (λ i. recordLine (getD (now (records .entry)) i 0)) n (sheet (now (out .entry)) at) ⌝ }
 {
@@ -261,7 +268,7 @@ fn put_records(out: &mut [u8], at: usize, n: usize, records: &[u64]) -> usize
     next
 }
 
-// The table as it stands.
+// The table as it stands: as many entries and records as the counts say and the lent slices have.
 pub(crate) fn put_table(
     out: &mut [u8],
     at: usize,
@@ -271,9 +278,13 @@ pub(crate) fn put_table(
     fields: &[u8],
     records: &[u64],
 ) -> usize
-    ensures { λ r. ⌜ sheet (now (out .exit)) r ≡ tableLines (tableOf state (now (keys .entry)) (now (times .entry)) (now (fields .entry)) (now (records .entry))) (sheet (now (out .entry)) at) ⌝ }
+    ensures { λ r.
+        let table = tableOf state (now (keys .entry)) (now (times .entry)) (now (fields .entry)) (now (records .entry)) in
+        ⌜ sheet (now (out .exit)) r ≡ tableLines table (sheet (now (out .entry)) at) ⌝ }
 {
+    let shown = least(state.entries, keys.len());
+    let recorded = least(state.recorded, records.len());
     let counts = put_counts(out, at, state);
-    let entries = put_entries(out, counts, state, keys, times, fields, records);
-    put_records(out, entries, state.recorded, records)
+    let entries = put_entries(out, counts, state, shown, keys, times, fields, records);
+    put_records(out, entries, recorded, records)
 }

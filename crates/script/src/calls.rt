@@ -23,7 +23,7 @@ ghost use mathlib.Core.Path.{_≡_};
 ghost use mathlib.Core.Bool.{false};
 ghost use mathlib.Core.List.{List};
 ghost use Rattle.scenes.specs.Table.{tableOf};
-ghost use Rattle.script.specs.Calls.{doneOf, calledOf, byte, short, long, bytesAt, membership, applied, transition, sceneKey, groupKey, copyRequest, sceneTail, infoTail, add, store, view, remove, removeAll, copy, recall, list, listIn, info, setVersion, entryFits, pushEntry, recordWord, recordFits, pushRecord, command, query, event, hostWrite, call};
+ghost use Rattle.script.specs.Calls.{doneOf, calledOf, byte, short, long, bytesAt, applied, transition, sceneKey, groupKey, copyRequest, sceneTail, infoTail, add, store, view, remove, removeAll, copy, recall, list, listIn, info, setVersion, entryFits, pushEntry, recordWord, recordFits, pushRecord, command, query, event, hostWrite, call};
 
 // The row of an info read.
 pub(crate) struct Row {
@@ -82,16 +82,6 @@ fn long(value: u64) -> u32
     ensures { λ r. ⌜ r ≡ long value ⌝ }
 {
     (value % 0x1_0000_0000) as u32
-}
-
-fn membership(value: u64) -> Membership
-    ensures { λ r. ⌜ r ≡ membership value ⌝ }
-{
-    match value {
-        0 => Membership::No,
-        1 => Membership::Yes,
-        _ => Membership::Failed,
-    }
 }
 
 fn applied(value: u64) -> Applied
@@ -194,13 +184,16 @@ fn add(
     line: &[u8],
     read: Line,
 ) -> Answer
-    ensures { λ r. ⌜ doneOf r (tableOf (r .state) (now (keys .exit)) (now (times .exit)) (now (fields .exit)) (now (records .exit))) ≡ add (read .values) (bytesAt read (now (line .entry)) 6) (bytesAt read (now (line .entry)) 7) (tableOf state (now (keys .entry)) (now (times .entry)) (now (fields .entry)) (now (records .entry))) ⌝ }
+    ensures { λ r.
+        let before = tableOf state (now (keys .entry)) (now (times .entry)) (now (fields .entry)) (now (records .entry)) in
+        let after = tableOf (r .state) (now (keys .exit)) (now (times .exit)) (now (fields .exit)) (now (records .exit)) in
+        ⌜ doneOf r after ≡ add (read .values) (bytesAt read (now (line .entry)) 6) (bytesAt read (now (line .entry)) 7) before ⌝ }
 {
     let pairs = part(line, read.starts[6], read.values[6] as usize);
     let ext = part(line, read.starts[7], read.values[7] as usize);
     let key = scene_key(read);
     let time = long(read.values[4]);
-    let member = membership(read.values[5]);
+    let member = Membership::of_number(byte(read.values[5]));
     Answer::plain(state.add_scene(keys, times, fields, records, key, time, member, pairs, ext))
 }
 
@@ -214,11 +207,14 @@ fn store(
     line: &[u8],
     read: Line,
 ) -> Answer
-    ensures { λ r. ⌜ doneOf r (tableOf (r .state) (now (keys .exit)) (now (times .exit)) (now (fields .exit)) (now (records .exit))) ≡ store (read .values) (bytesAt read (now (line .entry)) 5) (tableOf state (now (keys .entry)) (now (times .entry)) (now (fields .entry)) (now (records .entry))) ⌝ }
+    ensures { λ r.
+        let before = tableOf state (now (keys .entry)) (now (times .entry)) (now (fields .entry)) (now (records .entry)) in
+        let after = tableOf (r .state) (now (keys .exit)) (now (times .exit)) (now (fields .exit)) (now (records .exit)) in
+        ⌜ doneOf r after ≡ store (read .values) (bytesAt read (now (line .entry)) 5) before ⌝ }
 {
     let captured = part(line, read.starts[5], read.values[5] as usize);
     let key = scene_key(read);
-    let member = membership(read.values[4]);
+    let member = Membership::of_number(byte(read.values[4]));
     Answer::plain(state.store_scene(keys, times, fields, records, key, member, captured))
 }
 
@@ -231,10 +227,13 @@ fn view(
     records: &[u64],
     read: Line,
 ) -> Answer
-    ensures { λ r. ⌜ doneOf r (tableOf (r .state) (now (keys .entry)) (now (times .entry)) (now (fields .entry)) (now (records .entry))) ≡ view (read .values) (tableOf state (now (keys .entry)) (now (times .entry)) (now (fields .entry)) (now (records .entry))) ⌝ }
+    ensures { λ r.
+        let before = tableOf state (now (keys .entry)) (now (times .entry)) (now (fields .entry)) (now (records .entry)) in
+        let after = tableOf (r .state) (now (keys .entry)) (now (times .entry)) (now (fields .entry)) (now (records .entry)) in
+        ⌜ doneOf r after ≡ view (read .values) before ⌝ }
 {
     let key = scene_key(read);
-    let member = membership(read.values[4]);
+    let member = Membership::of_number(byte(read.values[4]));
     let found = state.view_scene(keys, times, fields, records, key, member);
     let state = found.state;
     Answer {
@@ -254,10 +253,13 @@ fn remove(
     records: &mut [u64],
     read: Line,
 ) -> Answer
-    ensures { λ r. ⌜ doneOf r (tableOf (r .state) (now (keys .exit)) (now (times .exit)) (now (fields .exit)) (now (records .exit))) ≡ remove (read .values) (tableOf state (now (keys .entry)) (now (times .entry)) (now (fields .entry)) (now (records .entry))) ⌝ }
+    ensures { λ r.
+        let before = tableOf state (now (keys .entry)) (now (times .entry)) (now (fields .entry)) (now (records .entry)) in
+        let after = tableOf (r .state) (now (keys .exit)) (now (times .exit)) (now (fields .exit)) (now (records .exit)) in
+        ⌜ doneOf r after ≡ remove (read .values) before ⌝ }
 {
     let key = scene_key(read);
-    let member = membership(read.values[4]);
+    let member = Membership::of_number(byte(read.values[4]));
     Answer::plain(state.remove_scene(keys, times, fields, records, key, member))
 }
 
@@ -270,10 +272,13 @@ fn remove_all(
     records: &mut [u64],
     read: Line,
 ) -> Answer
-    ensures { λ r. ⌜ doneOf r (tableOf (r .state) (now (keys .exit)) (now (times .exit)) (now (fields .exit)) (now (records .exit))) ≡ removeAll (read .values) (tableOf state (now (keys .entry)) (now (times .entry)) (now (fields .entry)) (now (records .entry))) ⌝ }
+    ensures { λ r.
+        let before = tableOf state (now (keys .entry)) (now (times .entry)) (now (fields .entry)) (now (records .entry)) in
+        let after = tableOf (r .state) (now (keys .exit)) (now (times .exit)) (now (fields .exit)) (now (records .exit)) in
+        ⌜ doneOf r after ≡ removeAll (read .values) before ⌝ }
 {
     let key = group_key(read);
-    let member = membership(read.values[3]);
+    let member = Membership::of_number(byte(read.values[3]));
     Answer::plain(state.remove_all_scenes(keys, times, fields, records, key, member))
 }
 
@@ -286,11 +291,14 @@ fn copy(
     records: &mut [u64],
     read: Line,
 ) -> Answer
-    ensures { λ r. ⌜ doneOf r (tableOf (r .state) (now (keys .exit)) (now (times .exit)) (now (fields .exit)) (now (records .exit))) ≡ copy (read .values) (tableOf state (now (keys .entry)) (now (times .entry)) (now (fields .entry)) (now (records .entry))) ⌝ }
+    ensures { λ r.
+        let before = tableOf state (now (keys .entry)) (now (times .entry)) (now (fields .entry)) (now (records .entry)) in
+        let after = tableOf (r .state) (now (keys .exit)) (now (times .exit)) (now (fields .exit)) (now (records .exit)) in
+        ⌜ doneOf r after ≡ copy (read .values) before ⌝ }
 {
     let c = copy_request(read);
-    let source = membership(read.values[7]);
-    let target = membership(read.values[8]);
+    let source = Membership::of_number(byte(read.values[7]));
+    let target = Membership::of_number(byte(read.values[8]));
     Answer::plain(state.copy_scene(keys, times, fields, records, c, source, target))
 }
 
@@ -303,10 +311,13 @@ fn recall(
     records: &mut [u64],
     read: Line,
 ) -> Answer
-    ensures { λ r. ⌜ doneOf r (tableOf (r .state) (now (keys .entry)) (now (times .entry)) (now (fields .entry)) (now (records .exit))) ≡ recall (read .values) (tableOf state (now (keys .entry)) (now (times .entry)) (now (fields .entry)) (now (records .entry))) ⌝ }
+    ensures { λ r.
+        let before = tableOf state (now (keys .entry)) (now (times .entry)) (now (fields .entry)) (now (records .entry)) in
+        let after = tableOf (r .state) (now (keys .entry)) (now (times .entry)) (now (fields .entry)) (now (records .exit)) in
+        ⌜ doneOf r after ≡ recall (read .values) before ⌝ }
 {
     let key = scene_key(read);
-    let member = membership(read.values[4]);
+    let member = Membership::of_number(byte(read.values[4]));
     let time = transition(read.values[5]);
     let end = applied(read.values[6]);
     let found = state.recall_lookup(keys, times, fields, records, key, member, time);
@@ -330,10 +341,13 @@ fn list(
     ids: &mut [u8],
     read: Line,
 ) -> Answer
-    ensures { λ r. ⌜ calledOf (doneOf r (tableOf (r .state) (now (keys .entry)) (now (times .entry)) (now (fields .entry)) (now (records .entry)))) (now (ids .exit)) ≡ list (read .values) (now (ids .entry)) (tableOf state (now (keys .entry)) (now (times .entry)) (now (fields .entry)) (now (records .entry))) ⌝ }
+    ensures { λ r.
+        let before = tableOf state (now (keys .entry)) (now (times .entry)) (now (fields .entry)) (now (records .entry)) in
+        let after = tableOf (r .state) (now (keys .entry)) (now (times .entry)) (now (fields .entry)) (now (records .entry)) in
+        ⌜ calledOf (doneOf r after) (now (ids .exit)) ≡ list (read .values) (now (ids .entry)) before ⌝ }
 {
     let key = group_key(read);
-    let member = membership(read.values[3]);
+    let member = Membership::of_number(byte(read.values[3]));
     let listed = state.get_scene_membership(keys, times, fields, records, ids, key, member);
     let state = listed.state;
     if listed.status == Status::SUCCESS {
@@ -362,7 +376,10 @@ fn list_in(
     ids: &mut [u8],
     read: Line,
 ) -> Answer
-    ensures { λ r. ⌜ calledOf (doneOf r (tableOf (r .state) (now (keys .entry)) (now (times .entry)) (now (fields .entry)) (now (records .entry)))) (now (ids .exit)) ≡ listIn (read .values) (now (ids .entry)) (tableOf state (now (keys .entry)) (now (times .entry)) (now (fields .entry)) (now (records .entry))) ⌝ }
+    ensures { λ r.
+        let before = tableOf state (now (keys .entry)) (now (times .entry)) (now (fields .entry)) (now (records .entry)) in
+        let after = tableOf (r .state) (now (keys .entry)) (now (times .entry)) (now (fields .entry)) (now (records .entry)) in
+        ⌜ calledOf (doneOf r after) (now (ids .exit)) ≡ listIn (read .values) (now (ids .entry)) before ⌝ }
 {
     let n = read.values[4] as usize;
     if n < ids.len() {
@@ -380,7 +397,10 @@ fn info(
     records: &[u64],
     read: Line,
 ) -> Answer
-    ensures { λ r. ⌜ doneOf r (tableOf (r .state) (now (keys .entry)) (now (times .entry)) (now (fields .entry)) (now (records .entry))) ≡ info (read .values) (tableOf state (now (keys .entry)) (now (times .entry)) (now (fields .entry)) (now (records .entry))) ⌝ }
+    ensures { λ r.
+        let before = tableOf state (now (keys .entry)) (now (times .entry)) (now (fields .entry)) (now (records .entry)) in
+        let after = tableOf (r .state) (now (keys .entry)) (now (times .entry)) (now (fields .entry)) (now (records .entry)) in
+        ⌜ doneOf r after ≡ info (read .values) before ⌝ }
 {
     let fabric = byte(read.values[0]);
     let endpoint = short(read.values[1]);
@@ -457,7 +477,10 @@ fn push_entry(
     line: &[u8],
     read: Line,
 ) -> Answer
-    ensures { λ r. ⌜ ((w : List ℕ) → doneOf r (tableOf (r .state) (now (keys .exit)) (now (times .exit)) (now (fields .exit)) w) ≡ pushEntry (read .values) (bytesAt read (now (line .entry)) 5) (tableOf state (now (keys .entry)) (now (times .entry)) (now (fields .entry)) w)) ⌝ }
+    ensures { λ r. ⌜ ((w : List ℕ) →
+        doneOf r (tableOf (r .state) (now (keys .exit)) (now (times .exit)) (now (fields .exit)) w)
+        ≡ pushEntry (read .values) (bytesAt read (now (line .entry)) 5)
+        (tableOf state (now (keys .entry)) (now (times .entry)) (now (fields .entry)) w)) ⌝ }
 {
     let ext = part(line, read.starts[5], read.values[5] as usize);
     let key = scene_key(read);
@@ -504,7 +527,9 @@ fn record_fits(state: ScenesState, fabric: u8, records: usize) -> bool
 
 // r: the host writes a record behind the last one, as it stands.
 fn push_record(mut state: ScenesState, records: &mut [u64], read: Line) -> Answer
-    ensures { λ r. ⌜ ((k t f : List ℕ) → doneOf r (tableOf (r .state) k t f (now (records .exit))) ≡ pushRecord (read .values) (tableOf state k t f (now (records .entry)))) ⌝ }
+    ensures { λ r. ⌜ ((k t f : List ℕ) →
+        doneOf r (tableOf (r .state) k t f (now (records .exit)))
+        ≡ pushRecord (read .values) (tableOf state k t f (now (records .entry)))) ⌝ }
 {
     let key = scene_key(read);
     let word = record_word(key, read.values[4]);
@@ -527,7 +552,10 @@ fn command(
     line: &[u8],
     read: Line,
 ) -> Answer
-    ensures { λ r. ⌜ doneOf r (tableOf (r .state) (now (keys .exit)) (now (times .exit)) (now (fields .exit)) (now (records .exit))) ≡ command (read .letter) (read .values) (bytesAt read (now (line .entry))) (tableOf state (now (keys .entry)) (now (times .entry)) (now (fields .entry)) (now (records .entry))) ⌝ }
+    ensures { λ r.
+        let before = tableOf state (now (keys .entry)) (now (times .entry)) (now (fields .entry)) (now (records .entry)) in
+        let after = tableOf (r .state) (now (keys .exit)) (now (times .exit)) (now (fields .exit)) (now (records .exit)) in
+        ⌜ doneOf r after ≡ command (read .letter) (read .values) (bytesAt read (now (line .entry))) before ⌝ }
 {
     let letter = read.letter;
     match letter {
@@ -549,7 +577,10 @@ fn query(
     ids: &mut [u8],
     read: Line,
 ) -> Answer
-    ensures { λ r. ⌜ calledOf (doneOf r (tableOf (r .state) (now (keys .entry)) (now (times .entry)) (now (fields .entry)) (now (records .exit)))) (now (ids .exit)) ≡ query (read .letter) (read .values) (now (ids .entry)) (tableOf state (now (keys .entry)) (now (times .entry)) (now (fields .entry)) (now (records .entry))) ⌝ }
+    ensures { λ r.
+        let before = tableOf state (now (keys .entry)) (now (times .entry)) (now (fields .entry)) (now (records .entry)) in
+        let after = tableOf (r .state) (now (keys .entry)) (now (times .entry)) (now (fields .entry)) (now (records .exit)) in
+        ⌜ calledOf (doneOf r after) (now (ids .exit)) ≡ query (read .letter) (read .values) (now (ids .entry)) before ⌝ }
 {
     let letter = read.letter;
     match letter {
@@ -569,7 +600,10 @@ fn event(
     records: &mut [u64],
     read: Line,
 ) -> Answer
-    ensures { λ r. ⌜ doneOf r (tableOf (r .state) (now (keys .exit)) (now (times .exit)) (now (fields .exit)) (now (records .exit))) ≡ event (read .letter) (read .values) (tableOf state (now (keys .entry)) (now (times .entry)) (now (fields .entry)) (now (records .entry))) ⌝ }
+    ensures { λ r.
+        let before = tableOf state (now (keys .entry)) (now (times .entry)) (now (fields .entry)) (now (records .entry)) in
+        let after = tableOf (r .state) (now (keys .exit)) (now (times .exit)) (now (fields .exit)) (now (records .exit)) in
+        ⌜ doneOf r after ≡ event (read .letter) (read .values) before ⌝ }
 {
     let letter = read.letter;
     match letter {
@@ -598,7 +632,10 @@ fn host_write(
     line: &[u8],
     read: Line,
 ) -> Answer
-    ensures { λ r. ⌜ doneOf r (tableOf (r .state) (now (keys .exit)) (now (times .exit)) (now (fields .exit)) (now (records .exit))) ≡ hostWrite (read .letter) (read .values) (bytesAt read (now (line .entry))) (tableOf state (now (keys .entry)) (now (times .entry)) (now (fields .entry)) (now (records .entry))) ⌝ }
+    ensures { λ r.
+        let before = tableOf state (now (keys .entry)) (now (times .entry)) (now (fields .entry)) (now (records .entry)) in
+        let after = tableOf (r .state) (now (keys .exit)) (now (times .exit)) (now (fields .exit)) (now (records .exit)) in
+        ⌜ doneOf r after ≡ hostWrite (read .letter) (read .values) (bytesAt read (now (line .entry))) before ⌝ }
 {
     let letter = read.letter;
     match letter {
@@ -619,7 +656,10 @@ pub(crate) fn call(
     line: &[u8],
     read: Line,
 ) -> Answer
-    ensures { λ r. ⌜ calledOf (doneOf r (tableOf (r .state) (now (keys .exit)) (now (times .exit)) (now (fields .exit)) (now (records .exit)))) (now (ids .exit)) ≡ call (read .letter) (read .values) (bytesAt read (now (line .entry))) (now (ids .entry)) (tableOf state (now (keys .entry)) (now (times .entry)) (now (fields .entry)) (now (records .entry))) ⌝ }
+    ensures { λ r.
+        let before = tableOf state (now (keys .entry)) (now (times .entry)) (now (fields .entry)) (now (records .entry)) in
+        let after = tableOf (r .state) (now (keys .exit)) (now (times .exit)) (now (fields .exit)) (now (records .exit)) in
+        ⌜ calledOf (doneOf r after) (now (ids .exit)) ≡ call (read .letter) (read .values) (bytesAt read (now (line .entry))) (now (ids .entry)) before ⌝ }
 {
     let letter = read.letter;
     if one_of(letter, b"ASRXC") {

@@ -6,5 +6,6 @@ mod runner;
 
 pub use runner::Machine;
 pub use runner::Ran;
+pub use runner::read_failed;
 pub use runner::run_line;
 pub use runner::too_long;

@@ -1,16 +1,17 @@
 // A line of a script: a letter and the words that belong to it.
-use crate::answers::least;
 use text::Reason;
 use text::Word;
 use text::digits;
 use text::hex;
 use text::next_word;
 use text::number;
-ghost use Prim.Native.Nat.{ℕ, _≤_};
+use text::same;
+ghost use Prim.Native.Nat.{_≤_};
 ghost use mathlib.Core.Path.{_≡_};
-ghost use mathlib.Core.List.{List, _++_};
-ghost use lib.ListN.{length, drop};
-ghost use Rattle.script.specs.Lines.{oneOf, known, sceneAnd, kindsOf, overrideOf, mostScenes, inFrontOf, meaning, wordSays, wordsSay, lineSays, ReadsNext, saidOf};
+ghost use mathlib.Core.List.{_++_};
+ghost use lib.ListN.{length, take, drop};
+ghost use Rattle.text.specs.Reading.{turned};
+ghost use Rattle.script.specs.Lines.{oneOf, known, sceneAnd, kindsOf, overrideOf, mostScenes, readAs, wordSays, wordsSay, wordsLeft, lineSays, lineLeft, ReadsNext, ReadsLine};
 
 // The kinds of words.
 enum Kind {
@@ -169,28 +170,18 @@ fn most_scenes(trace: bool) -> u64
 fn transition(word: &[u8]) -> Word
     ensures { λ r. ⌜ r ≡ overrideOf (now (word .entry)) ⌝ }
 {
-    if check::same(word, b"-") {
+    if same(word, b"-") {
         return Word::Value(Bounds::STORED);
     }
-    if check::same(word, b"null") {
+    if same(word, b"null") {
         return Word::Value(Bounds::STORED);
     }
     number(word, 0xFFFF_FFFF)
 }
 
-// The count of bytes that stand in the front of a word: no more than it has, so that what follows the word is not touched.
-fn front(word: Word, len: usize) -> Word
-    ensures { λ r. ⌜ r ≡ inFrontOf len word ⌝ }
-{
-    match word {
-        Word::Value(n) => Word::Value(least(n as usize, len) as u64),
-        Word::Wrong(reason) => Word::Wrong(reason),
-    }
-}
-
-// Reads a word of a kind, and turns its bytes into those that it spells, in its front: what follows the word does not matter.
+// Reads a word of a kind, and turns its bytes into those that it spells, in its front.
 fn read_word(word: &mut [u8], kind: Kind, trace: bool) -> Word
-    ensures { λ r. ⌜ ((rest : List ℕ) → meaning kind r (now (word .exit) ++ rest) ≡ wordSays trace kind (now (word .entry))) ⌝ }
+    ensures { λ r. ⌜ turned r (now (word .exit)) ≡ readAs (wordSays trace kind (now (word .entry))) (now (word .entry)) ⌝ }
 {
     match kind {
         Kind::End => {
@@ -205,14 +196,8 @@ fn read_word(word: &mut [u8], kind: Kind, trace: bool) -> Word
         Kind::Member => number(word, 2),
         Kind::Flag => number(word, 1),
         Kind::Size => number(word, most_scenes(trace)),
-        Kind::Digits => {
-            let count = digits(word);
-            front(count, word.len())
-        }
-        Kind::Hex => {
-            let count = hex(word);
-            front(count, word.len())
-        }
+        Kind::Digits => digits(word),
+        Kind::Hex => hex(word),
         Kind::Override => transition(word),
         Kind::Length => {
             if word.len() == 0 {
@@ -245,7 +230,10 @@ fn read_next(line: &mut [u8], at: usize, kind: Kind, trace: bool) -> Reading
 // Reads the words behind a letter.
 fn read_words(line: &mut [u8], start: usize, letter: u8, trace: bool) -> Line
     requires { ⌜ start ≤ length (now line) ⌝ }
-    ensures { λ r. ⌜ saidOf r (now (line .exit)) ≡ wordsSay trace letter (kindsOf letter) (drop start (now (line .entry))) ⌝ }
+    ensures { λ r.
+        let text = drop start (now (line .entry)) in
+        let left = take start (now (line .entry)) ++ wordsLeft trace (kindsOf letter) text in
+        ⌜ ReadsLine (wordsSay trace letter (kindsOf letter) text) left (now (line .exit)) r ⌝ }
 {
     let kinds = kinds_of(letter);
     let mut values = [0u64; 10];
@@ -275,9 +263,9 @@ fn read_words(line: &mut [u8], start: usize, letter: u8, trace: bool) -> Line
     }
 }
 
-// Reads a line. Empty lines and lines that start with `#` say nothing.
+// Reads a line, and leaves its words as they were read. Empty lines and lines that start with `#` say nothing.
 pub(crate) fn read_line(line: &mut [u8], trace: bool) -> Line
-    ensures { λ r. ⌜ saidOf r (now (line .exit)) ≡ lineSays trace (now (line .entry)) ⌝ }
+    ensures { λ r. ⌜ ReadsLine (lineSays trace (now (line .entry))) (lineLeft trace (now (line .entry))) (now (line .exit)) r ⌝ }
 {
     let span = next_word(line, 0);
     let from = span.from;

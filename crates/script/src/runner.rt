@@ -85,7 +85,9 @@ impl Machine {
         out: &mut [u8],
         at: usize,
     ) -> Ran
-        ensures { λ r. ⌜ Ended self (tableLines (tableOf (self .state) (now (keys .entry)) (now (times .entry)) (now (fields .entry)) (now (records .entry)))) (now (out .entry)) at (now (out .exit)) r ⌝ }
+        ensures { λ r.
+            let table = tableOf (self .state) (now (keys .entry)) (now (times .entry)) (now (fields .entry)) (now (records .entry)) in
+            ⌜ Ended self (tableLines table) (now (out .entry)) at (now (out .exit)) r ⌝ }
     {
         let state = self.state;
         Ran {
@@ -107,7 +109,12 @@ impl Machine {
         at: usize,
         read: Line,
     ) -> Ran
-        ensures { λ r. ⌜ session (r .machine) (now (keys .exit)) (now (times .exit)) (now (fields .exit)) (now (records .exit)) (now (ids .exit)) (sheet (now (out .exit)) (r .at)) ≡ called (read .letter) (read .values) (bytesAt read (now (line .entry))) (session self (now (keys .entry)) (now (times .entry)) (now (fields .entry)) (now (records .entry)) (now (ids .entry)) (sheet (now (out .entry)) at)) ⌝ }
+        ensures { λ r.
+            let before = session self (now (keys .entry)) (now (times .entry)) (now (fields .entry)) (now (records .entry))
+            (now (ids .entry)) (now (line .entry)) (sheet (now (out .entry)) at) in
+            let after = session (r .machine) (now (keys .exit)) (now (times .exit)) (now (fields .exit)) (now (records .exit))
+            (now (ids .exit)) (now (line .entry)) (sheet (now (out .exit)) (r .at)) in
+            ⌜ after ≡ called (read .letter) (read .values) (bytesAt read (now (line .entry))) before ⌝ }
     {
         let before = self.state;
         let answer = call(before, keys, times, fields, records, ids, line, read);
@@ -143,7 +150,12 @@ impl Machine {
         at: usize,
         read: Line,
     ) -> Ran
-        ensures { λ r. ⌜ session (r .machine) (now (keys .exit)) (now (times .exit)) (now (fields .exit)) (now (records .exit)) (now (ids .exit)) (sheet (now (out .exit)) (r .at)) ≡ obeyed (read .letter) (read .values) (bytesAt read (now (line .entry))) (session self (now (keys .entry)) (now (times .entry)) (now (fields .entry)) (now (records .entry)) (now (ids .entry)) (sheet (now (out .entry)) at)) ⌝ }
+        ensures { λ r.
+            let before = session self (now (keys .entry)) (now (times .entry)) (now (fields .entry)) (now (records .entry))
+            (now (ids .entry)) (now (line .entry)) (sheet (now (out .entry)) at) in
+            let after = session (r .machine) (now (keys .exit)) (now (times .exit)) (now (fields .exit)) (now (records .exit))
+            (now (ids .exit)) (now (line .entry)) (sheet (now (out .exit)) (r .at)) in
+            ⌜ after ≡ obeyed (read .letter) (read .values) (bytesAt read (now (line .entry))) before ⌝ }
     {
         if read.letter == b'N' {
             return self.sized(out, at, read.values[0]);
@@ -159,7 +171,8 @@ impl Machine {
 }
 
 // Runs one line, which is all that `line` holds, and answers it from a position of the output on. A line that is not understood is
-// answered by `error`, its number and a reason, and changes nothing. The words of the line are changed in place.
+// answered by `error`, its number and a reason, and changes nothing. The line's words are changed in place: one of digits or of
+// hexadecimal digits then has the bytes that it spells in its front, up to the first word that is not understood; all else stays.
 pub fn run_line(
     machine: Machine,
     keys: &mut [u64],
@@ -171,7 +184,12 @@ pub fn run_line(
     out: &mut [u8],
     at: usize,
 ) -> Ran
-    ensures { λ r. ⌜ session (r .machine) (now (keys .exit)) (now (times .exit)) (now (fields .exit)) (now (records .exit)) (now (ids .exit)) (sheet (now (out .exit)) (r .at)) ≡ runLine (now (line .entry)) (session (counted machine) (now (keys .entry)) (now (times .entry)) (now (fields .entry)) (now (records .entry)) (now (ids .entry)) (sheet (now (out .entry)) at)) ⌝ }
+    ensures { λ r.
+        let before = session (counted machine) (now (keys .entry)) (now (times .entry)) (now (fields .entry)) (now (records .entry))
+        (now (ids .entry)) (now (line .entry)) (sheet (now (out .entry)) at) in
+        let after = session (r .machine) (now (keys .exit)) (now (times .exit)) (now (fields .exit)) (now (records .exit))
+        (now (ids .exit)) (now (line .exit)) (sheet (now (out .exit)) (r .at)) in
+        ⌜ after ≡ runLine before ⌝ }
 {
     let m = machine.counted();
     let read = read_line(line, m.trace);
@@ -188,4 +206,11 @@ pub fn too_long(machine: Machine, out: &mut [u8], at: usize) -> Ran
     ensures { λ r. ⌜ Ended (counted machine) (writes (errorLine (counted machine .lines) Reason.TooLong)) (now (out .entry)) at (now (out .exit)) r ⌝ }
 {
     machine.counted().wrong(out, at, Reason::TooLong)
+}
+
+// Answers an input that cannot be read on. Its number is that of the line that would have been read next.
+pub fn read_failed(machine: Machine, out: &mut [u8], at: usize) -> Ran
+    ensures { λ r. ⌜ Ended (counted machine) (writes (errorLine (counted machine .lines) Reason.ReadFailed)) (now (out .entry)) at (now (out .exit)) r ⌝ }
+{
+    machine.counted().wrong(out, at, Reason::ReadFailed)
 }

@@ -2,3 +2,4 @@
 pub mod Reading
 pub mod Gathering
 pub mod Writing
+pub mod Whole

@@ -1,14 +1,15 @@
 -- The laws of text that is put into a buffer. Assumes nothing.
-use Prim.Native.Nat.{ℕ, zero, suc, _+_, _/_, _%_, _≤_, _<_}
+use Prim.Native.Nat.{ℕ, zero, suc, _+_, _/_, _%_, _^_, _≤_, _<_}
 use mathlib.Core.Path.{_≡_, refl, sym, ap, _∙_}
-use mathlib.Core.Bool.{Bool, true, false, cond}
+use mathlib.Core.Bool.{true, false, cond}
 use mathlib.Core.List.{List, [], _∷_, _++_}
 use native.Mathlib.Numerals.{add-one}
+use native.Mathlib.Nat.{pow-suc}
 use native.Mathlib.Omega.{arith}
 use lib.Dec.{ltb}
 use lib.ListN.{length, getD, drop, set, drop-of-length-le}
 use lib.Seq.{drop-cons}
-use borrow.Author.Tests.{lt-ltb, le-ltb, ltb-false}
+use borrow.Author.Tests.{lt-ltb, le-ltb}
 use Rattle.text.specs.Writing.{Sheet, sheet, putByte, puts, writes, writesBelow, digitsIn, decimal, hexByte, hexText, bytesText}
 
 pub puts-append : (a b : List ℕ) (s : Sheet) → puts (a ++ b) s ≡ puts b (puts a s)
@@ -85,21 +86,19 @@ module _ (f : ℕ → List (List ℕ)) (s : Sheet) where
 -- ---- decimal
 
 -- more digits than a number has change nothing
-enough : (k m n : ℕ) → n < k → n < m → digitsIn k n ≡ digitsIn m n
+enough : (k n : ℕ) → n < 10 ^ suc k → digitsIn (suc k) n ≡ digitsIn (suc (suc k)) n
 unfolding digitsIn
-enough zero m n h l = absurd (omega arith)
-enough (suc k) zero n h l = absurd (omega arith)
-enough (suc k) (suc m) n h l =
-    (elim (ltb n 10) as (λ b. ltb n 10 ≡ b → cond b ((48 + n) ∷ []) (digitsIn k (n / 10) ++ ((48 + n % 10) ∷ [])) ≡ cond b ((48 + n) ∷ []) (digitsIn m (n / 10) ++ ((48 + n % 10) ∷ []))) [
+enough zero n h = rw (lt-ltb n 10 (omega arith))
+enough (suc k) n h =
+    (elim (ltb n 10) as (λ b. ltb n 10 ≡ b → cond b ((48 + n) ∷ []) (digitsIn (suc k) (n / 10) ++ ((48 + n % 10) ∷ [])) ≡ cond b ((48 + n) ∷ []) (digitsIn (suc (suc k)) (n / 10) ++ ((48 + n % 10) ∷ []))) [
       | true ↦ λ e. refl
-      | false ↦ λ e. let g = ltb-false n 10 e in ap (λ (t : List ℕ). t ++ ((48 + n % 10) ∷ [])) (enough k m (n / 10) (omega arith) (omega arith))
+      | false ↦ λ e. let p = pow-suc 10 (suc k) in ap (λ (t : List ℕ). t ++ ((48 + n % 10) ∷ [])) (enough k (n / 10) (omega arith))
     ]) refl
 
 pub decimal-one : (n : ℕ) → n < 10 → decimal n ≡ (48 + n) ∷ []
 unfolding digitsIn
 decimal-one n h = rw (lt-ltb n 10 h)
 
-pub decimal-more : (n : ℕ) → 10 ≤ n → decimal n ≡ decimal (n / 10) ++ ((48 + n % 10) ∷ [])
+pub decimal-more : (n : ℕ) → 10 ≤ n → n < 2 ^ 64 → decimal n ≡ decimal (n / 10) ++ ((48 + n % 10) ∷ [])
 unfolding digitsIn
-decimal-more n h =
-    rw (le-ltb n 10 h) (ap (λ (t : List ℕ). t ++ ((48 + n % 10) ∷ [])) (enough n (suc (n / 10)) (n / 10) (omega arith) (omega arith)))
+decimal-more n h l = rw (le-ltb n 10 h) (ap (λ (t : List ℕ). t ++ ((48 + n % 10) ∷ [])) (enough 18 (n / 10) (omega arith)))

@@ -1,9 +1,9 @@
 -- How a line is taken into words, and what a word says. Characters are their ASCII codes.
 use Prim.Native.Nat.{ℕ, suc, _+_, _*_, _-_}
-use mathlib.Core.Bool.{Bool, cond, not, _&&_, _||_}
-use mathlib.Core.List.{List, [], _∷_, _++_}
+use mathlib.Core.Bool.{Bool, true, false, cond, not, _&&_, _||_}
+use mathlib.Core.List.{List, [], _∷_, _++_, map}
 use lib.Dec.{eqb, ltb, leb}
-use lib.ListN.{length, getD, take, drop}
+use lib.ListN.{length, drop}
 use Rattle.text.specs.declared.input.Span.{Span}
 use Rattle.text.specs.declared.input.Reason.{Reason}
 use Rattle.text.specs.declared.input.Reason.the-variants.{Missing, NotANumber, TooLarge, NotHex, NotDigits}
@@ -52,27 +52,29 @@ numberOf most word = cond (eqb (length word) 0) (Wrong Missing) (numberFrom most
 
 -- ---- bytes
 
+-- whether two texts are the same
+unfoldable pub same : List ℕ → List ℕ → Bool
+same [] [] = true
+same [] (y ∷ ys) = false
+same (x ∷ xs) [] = false
+same (x ∷ xs) (y ∷ ys) = eqb x y && same xs ys
+
 -- the bytes that a word spells, or why it spells none
 pub data Spelled : Type 0 where
   Bytes : List ℕ → Spelled
   Refused : Reason → Spelled
 
--- bytes in front of those that are spelled
-abbrev pub behind : List ℕ → Spelled → Spelled
-behind xs (Bytes ys) = Bytes (xs ++ ys)
-behind xs (Refused r) = Refused r
-
--- what a word says that was turned into bytes in its front
-abbrev pub inFront : Word → List ℕ → Spelled
-inFront (Value n) word = Bytes (take n word)
-inFront (Wrong r) word = Refused r
-
 -- `-` stands for no bytes
-unfoldable pub isDash : List ℕ → Bool
-isDash word = eqb (length word) 1 && eqb (getD word 0 0) 45
-
 unfoldable pub orDash : List ℕ → Spelled → Spelled
-orDash word spelled = cond (eqb (length word) 0) (Refused Missing) (cond (isDash word) (Bytes []) spelled)
+orDash word spelled = cond (eqb (length word) 0) (Refused Missing) (cond (same word (45 ∷ [])) (Bytes []) spelled)
+
+-- a digit a byte
+unfoldable pub allDigits : List ℕ → Bool
+allDigits [] = true
+allDigits (b ∷ bs) = ltb (digitValue b) 10 && allDigits bs
+
+abbrev pub digitBytes : List ℕ → Spelled
+digitBytes word = cond (allDigits word) (Bytes (map digitValue word)) (Refused NotDigits)
 
 -- the value of a hexadecimal digit, or 16
 unfoldable pub hexValue : ℕ → ℕ
@@ -83,13 +85,34 @@ hexValue b =
     16))
 
 -- two digits a byte
-unfoldable pub hexPairs : List ℕ → Spelled
-hexPairs [] = Bytes []
-hexPairs (h ∷ []) = Refused NotHex
-hexPairs (h ∷ l ∷ bs) =
-    cond (ltb (hexValue h) 16 && ltb (hexValue l) 16) (behind ((hexValue h * 16 + hexValue l) ∷ []) (hexPairs bs)) (Refused NotHex)
+unfoldable pub allPairs : List ℕ → Bool
+allPairs [] = true
+allPairs (h ∷ []) = false
+allPairs (h ∷ l ∷ bs) = ltb (hexValue h) 16 && (ltb (hexValue l) 16 && allPairs bs)
 
--- a digit a byte
-unfoldable pub digitBytes : List ℕ → Spelled
-digitBytes [] = Bytes []
-digitBytes (b ∷ bs) = cond (ltb (digitValue b) 10) (behind (digitValue b ∷ []) (digitBytes bs)) (Refused NotDigits)
+unfoldable pub pairBytes : List ℕ → List ℕ
+pairBytes [] = []
+pairBytes (h ∷ []) = []
+pairBytes (h ∷ l ∷ bs) = (hexValue h * 16 + hexValue l) ∷ pairBytes bs
+
+abbrev pub hexPairs : List ℕ → Spelled
+hexPairs word = cond (allPairs word) (Bytes (pairBytes word)) (Refused NotHex)
+
+-- ---- a word that is turned into the bytes that it spells
+
+-- the answer, and what the word holds afterwards
+pub record Turned : Type 0 where
+  pub answer : Word
+  pub word : List ℕ
+
+abbrev pub turned : Word → List ℕ → Turned
+turned answer word = record { answer = answer; word = word }
+
+-- bytes in the front of a word, and behind them what it held
+abbrev pub laid : List ℕ → List ℕ → List ℕ
+laid bytes word = bytes ++ drop (length bytes) word
+
+-- a word that spells bytes has them in its front, and their count is the answer; one that is refused stays as it was
+abbrev pub spelledIn : Spelled → List ℕ → Turned
+spelledIn (Bytes bytes) word = turned (Value (length bytes)) (laid bytes word)
+spelledIn (Refused r) word = turned (Wrong r) word

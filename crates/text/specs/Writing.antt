@@ -1,9 +1,10 @@
 -- The text of answers, in ASCII codes.
-use Prim.Native.Nat.{ℕ, zero, suc, _+_, _-_, _/_, _%_}
+use Prim.Native.Nat.{ℕ, zero, suc, _+_, _-_, _/_, _%_, _≤_}
+use mathlib.Core.Path.{_≡_}
 use mathlib.Core.Bool.{Bool, cond, _&&_}
 use mathlib.Core.List.{List, [], _∷_, _++_}
 use lib.Dec.{ltb}
-use lib.ListN.{length, set}
+use lib.ListN.{length, set, take, drop}
 
 -- an output buffer, and the position of its next byte
 pub record Sheet : Type 0 where
@@ -32,6 +33,16 @@ unfoldable pub writesBelow : (ℕ → List (List ℕ)) → ℕ → Sheet → She
 writesBelow f zero s = s
 writesBelow f (suc n) s = writes (f n) (writesBelow f n s)
 
+-- what puts one text of at most so many bytes, whatever the sheet
+pub record Puts (most : ℕ) (f : Sheet → Sheet) : Type 0 where
+  pub text : List ℕ
+  pub short : length text ≤ most
+  pub put : (s : Sheet) → f s ≡ puts text s
+
+-- a text that stands whole behind what the buffer held up to the next position
+abbrev pub whole : List ℕ → Sheet → Sheet
+whole t s = sheet (take (s .next) (s .bytes) ++ (t ++ drop (s .next + length t) (s .bytes))) (s .next + length t)
+
 abbrev pub newline : List ℕ
 newline = 10 ∷ []
 
@@ -42,9 +53,9 @@ unfoldable pub digitsIn : ℕ → ℕ → List ℕ
 digitsIn zero n = []
 digitsIn (suc k) n = cond (ltb n 10) ((48 + n) ∷ []) (digitsIn k (n / 10) ++ ((48 + n % 10) ∷ []))
 
--- all of them: n has no more than n + 1
+-- all of them: a number of 64 bits has at most 20
 abbrev pub decimal : ℕ → List ℕ
-decimal n = digitsIn (suc n) n
+decimal n = digitsIn 20 n
 
 -- what stands behind a blank
 abbrev pub spaced : List ℕ → List ℕ

@@ -1,7 +1,9 @@
 // The words of a line: numbers, hexadecimal bytes and digits.
 ghost use mathlib.Core.Path.{_≡_};
+ghost use mathlib.Core.Bool.{true};
+ghost use mathlib.Core.List.{map};
 ghost use lib.ListN.{take, drop};
-ghost use Rattle.text.specs.Reading.{blank, inWord, past, wordFrom, digitValue, hexValue, numberOf, isDash, inFront, hexPairs, digitBytes, orDash};
+ghost use Rattle.text.specs.Reading.{blank, inWord, past, wordFrom, digitValue, hexValue, numberOf, same, Bytes, allDigits, allPairs, pairBytes, hexPairs, digitBytes, orDash, turned, spelledIn};
 
 // Why a line is not understood.
 pub enum Reason {
@@ -14,6 +16,7 @@ pub enum Reason {
     NotDigits,
     NoTable,
     TooLong,
+    ReadFailed,
 }
 
 // What a word says: a number, or how many bytes it was turned into; or why it is not understood.
@@ -156,78 +159,111 @@ pub fn number(word: &[u8], most: u64) -> Word
     Word::Value(value)
 }
 
-// Whether a word is `-`, which stands for no bytes.
-fn is_dash(word: &[u8]) -> bool
-    ensures { λ r. ⌜ r ≡ isDash (now (word .entry)) ⌝ }
+// Whether two texts are the same.
+pub fn same(a: &[u8], b: &[u8]) -> bool
+    ensures { λ r. ⌜ r ≡ same (now (a .entry)) (now (b .entry)) ⌝ }
 {
-    if word.len() == 1 {
-        return word[0] == b'-';
+    if a.len() != b.len() {
+        return false;
     }
-    false
+    let mut i = 0;
+    while i < a.len() {
+        if a[i] != b[i] {
+            return false;
+        }
+        i += 1;
+    }
+    true
 }
 
-// Turns hexadecimal digits into the bytes that they spell, in their front.
-fn hex_pairs(word: &mut [u8]) -> Word
-    ensures { λ r. ⌜ inFront r (now (word .exit)) ≡ hexPairs (now (word .entry)) ⌝ }
+// Whether a word is pairs of hexadecimal digits.
+fn all_pairs(word: &[u8]) -> bool
+    ensures { λ r. ⌜ r ≡ allPairs (now (word .entry)) ⌝ }
+{
+    let n = word.len() / 2;
+    let mut i = 0;
+    while i < n {
+        if 15 < hex_value(word[2 * i]) {
+            return false;
+        }
+        if 15 < hex_value(word[2 * i + 1]) {
+            return false;
+        }
+        i += 1;
+    }
+    n * 2 == word.len()
+}
+
+// Turns pairs of hexadecimal digits into the bytes that they spell, in their front.
+fn lay_pairs(word: &mut [u8]) -> Word
+    requires { ⌜ allPairs (now word) ≡ true ⌝ }
+    ensures { λ r. ⌜ turned r (now (word .exit)) ≡ spelledIn (Bytes (pairBytes (now (word .entry)))) (now (word .entry)) ⌝ }
 {
     let n = word.len() / 2;
     let mut i = 0;
     while i < n {
         let high = hex_value(word[2 * i]);
         let low = hex_value(word[2 * i + 1]);
-        if 15 < high {
-            return Word::Wrong(Reason::NotHex);
-        }
-        if 15 < low {
-            return Word::Wrong(Reason::NotHex);
-        }
         word[i] = high * 16 + low;
         i += 1;
     }
-    if n * 2 == word.len() {
-        return Word::Value(n as u64);
-    }
-    Word::Wrong(Reason::NotHex)
+    Word::Value(n as u64)
 }
 
-// Turns digits into bytes of their values.
-fn digit_bytes(word: &mut [u8]) -> Word
-    ensures { λ r. ⌜ inFront r (now (word .exit)) ≡ digitBytes (now (word .entry)) ⌝ }
+// Whether a word is digits.
+fn all_digits(word: &[u8]) -> bool
+    ensures { λ r. ⌜ r ≡ allDigits (now (word .entry)) ⌝ }
 {
     let mut i = 0;
     while i < word.len() {
-        let digit = digit_value(word[i]);
-        if 9 < digit {
-            return Word::Wrong(Reason::NotDigits);
+        if 9 < digit_value(word[i]) {
+            return false;
         }
-        word[i] = digit;
+        i += 1;
+    }
+    true
+}
+
+// Turns digits into bytes of their values.
+fn lay_digits(word: &mut [u8]) -> Word
+    ensures { λ r. ⌜ turned r (now (word .exit)) ≡ spelledIn (Bytes (map digitValue (now (word .entry)))) (now (word .entry)) ⌝ }
+{
+    let mut i = 0;
+    while i < word.len() {
+        word[i] = digit_value(word[i]);
         i += 1;
     }
     Word::Value(i as u64)
 }
 
-// Turns a word of hexadecimal digits, or `-`, into the bytes that it spells, in its front.
+// Turns a word of hexadecimal digits, or `-`, into the bytes that it spells, in its front. A word that is refused stays as it was.
 pub fn hex(word: &mut [u8]) -> Word
-    ensures { λ r. ⌜ inFront r (now (word .exit)) ≡ orDash (now (word .entry)) (hexPairs (now (word .entry))) ⌝ }
+    ensures { λ r. ⌜ turned r (now (word .exit)) ≡ spelledIn (orDash (now (word .entry)) (hexPairs (now (word .entry)))) (now (word .entry)) ⌝ }
 {
     if word.len() == 0 {
         return Word::Wrong(Reason::Missing);
     }
-    if is_dash(word) {
+    if same(word, b"-") {
         return Word::Value(0);
     }
-    hex_pairs(word)
+    if all_pairs(word) {
+        return lay_pairs(word);
+    }
+    Word::Wrong(Reason::NotHex)
 }
 
-// Turns a word of digits, or `-`, into bytes of their values, in its front.
+// Turns a word of digits, or `-`, into bytes of their values, in its front. A word that is refused stays as it was.
 pub fn digits(word: &mut [u8]) -> Word
-    ensures { λ r. ⌜ inFront r (now (word .exit)) ≡ orDash (now (word .entry)) (digitBytes (now (word .entry))) ⌝ }
+    ensures { λ r. ⌜ turned r (now (word .exit)) ≡ spelledIn (orDash (now (word .entry)) (digitBytes (now (word .entry)))) (now (word .entry)) ⌝ }
 {
     if word.len() == 0 {
         return Word::Wrong(Reason::Missing);
     }
-    if is_dash(word) {
+    if same(word, b"-") {
         return Word::Value(0);
     }
-    digit_bytes(word)
+    if all_digits(word) {
+        return lay_digits(word);
+    }
+    Word::Wrong(Reason::NotDigits)
 }

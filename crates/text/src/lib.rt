@@ -11,6 +11,7 @@ pub use input::hex;
 pub use input::next_word;
 pub use input::number;
 pub use input::part;
+pub use input::same;
 pub use lines::Gathered;
 pub use lines::gather;
 pub use output::end_line;

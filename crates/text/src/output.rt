@@ -2,7 +2,7 @@
 // lends the buffer empties it in time.
 use crate::input::Reason;
 ghost use mathlib.Core.Path.{_≡_};
-ghost use mathlib.Core.List.{[], _∷_, _++_};
+ghost use mathlib.Core.List.{[], _∷_};
 ghost use Prim.Native.Nat.{_%_};
 ghost use Rattle.text.specs.Writing.{sheet, putByte, puts, writes, decimal, spaced, flagText, hexDigit, hexByte, hexText, bytesText, isFault, statusText};
 ghost use Rattle.text.specs.Errors.{reasonText, errorLine};
@@ -139,6 +139,7 @@ fn put_reason(out: &mut [u8], at: usize, reason: Reason) -> usize
         Reason::NotDigits => put_text(out, at, b" bad digits"),
         Reason::NoTable => put_text(out, at, b" no table"),
         Reason::TooLong => put_text(out, at, b" line too long"),
+        Reason::ReadFailed => put_text(out, at, b" input cannot be read"),
     }
 }
 

@@ -1,10 +1,11 @@
 -- `console::feed` is safe and ends: each turn takes at least a byte of the chunk. Assumes nothing.
-use Prim.Native.Nat.{_-_}
+use Prim.Native.Nat.{_-_, _≤_}
 use mathlib.Core.Path.{_≡_, refl, _∙_}
 use native.Mathlib.Omega.{arith}
 use lib.ListN.{length}
 use borrow.Author.Needs.{needs}
 use Rattle.text.proofs.Gathering.{gathers-on}
+use Rattle.console.specs.Whole.{mostHeld}
 use Rattle.console.proofs.feed.Statement.{statement}
 use Rattle.console.proofs.feed.Tie as tie
 
@@ -17,19 +18,23 @@ Inv-loop m₀ keys₀ times₀ fields₀ records₀ ids₀ line₀ before chunk 
     × (length ids ≡ length ids₀)
     × (length line ≡ length line₀)
     × (length out ≡ length out₀)
+    × (at ≤ mostHeld)
 
 abbrev μ-loop : tie.MeasureT-loop
 μ-loop m₀ keys₀ times₀ fields₀ records₀ ids₀ line₀ before chunk out₀ held₀ from₀ at₀ m keys times fields records ids line out held from at =
     length chunk - from
 
 loop-holds : tie.Need-loop-holds Inv-loop μ-loop
-loop-holds c = (refl, refl, refl, refl, refl, refl, refl)
+loop-holds c = (refl, refl, refl, refl, refl, refl, refl, omega arith)
 
 gather-requires : tie.Need-gather-requires Inv-loop μ-loop
 gather-requires c κs = search needs
 
 step-requires : tie.Need-step-requires Inv-loop μ-loop
-step-requires c κs = search needs
+step-requires c κs =
+    let i = c .before .before .before .before .before .before .before .before .before .before .before .before .before .loop .inv in
+    let p = c .before .before .before .before .before .before .before .before .before .before .before .before .before .before .before .before .before .before .before .before .before .before .pre in
+    (omega (arith, i .0, p .0), (omega (arith, i .3, p .1 .0), (omega (arith, i .4, p .1 .1 .0), (i .7, omega (arith, i .6, p .1 .1 .1)))))
 
 same-length : tie.Need-same-length Inv-loop μ-loop
 same-length c = c .before .before .before .before .before .before .before .before .before .before .before .before .before .before .before .before .before .step .kept .1 .0 ∙ c .before .before .before .before .before .before .before .before .before .before .before .before .before .before .before .before .before .before .before .before .before .before .before .before .before .before .before .before .before .before .before .loop .inv .0
@@ -67,6 +72,7 @@ loop-again c = (
   c .before .before .before .before .before .before .before .before .before .before .before .before .before .before .before .before .before .step .kept .1 .1 .1 .1 .1 .0 ∙ c .before .before .before .before .before .before .before .before .before .before .before .before .before .before .before .before .before .before .before .before .before .before .before .before .before .before .before .before .before .before .before .loop .inv .4,
   c .before .before .before .before .before .before .before .before .before .before .before .before .before .before .before .before .before .step .kept .1 .1 .1 .1 .1 .1 .0 ∙ c .before .before .before .before .before .before .before .before .before .before .before .before .before .before .before .before .before .before .before .before .before .before .before .before .before .before .before .before .gather .kept .1 .1 .0 ∙ c .before .before .before .before .before .before .before .before .before .before .before .before .before .before .before .before .before .before .before .before .before .before .before .before .before .before .before .before .before .before .before .loop .inv .5,
   c .before .before .before .before .before .before .before .before .before .before .before .before .before .before .before .before .before .step .kept .1 .1 .1 .1 .1 .1 .1 .1 .0 ∙ c .before .before .before .before .before .before .before .before .before .before .before .before .before .before .before .before .before .before .before .before .before .before .before .before .before .before .before .before .before .before .before .loop .inv .6,
+  c .before .before .before .before .before .before .before .before .before .before .before .before .before .before .before .before .before .step .ensures,
 )
 
 loop-less-2 : tie.Need-loop-less-2 Inv-loop μ-loop
@@ -81,6 +87,7 @@ loop-again-2 c = (
   c .before .before .before .before .before .before .loop .inv .4,
   c .before .before .before .gather .kept .1 .1 .0 ∙ c .before .before .before .before .before .before .loop .inv .5,
   c .before .before .before .before .before .before .loop .inv .6,
+  c .before .before .before .before .before .before .loop .inv .7,
 )
 
 flush-requires : tie.Need-flush-requires Inv-loop μ-loop

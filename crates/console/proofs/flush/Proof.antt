@@ -1,29 +1,22 @@
+-- `console::flush` is safe. Assumes nothing.
 use mathlib.Core.Path.{sym}
 use lib.Seq.{length-take-le}
 use borrow.Author.Needs.{needs}
 use Rattle.console.proofs.flush.Statement.{statement}
 use Rattle.console.proofs.flush.Tie as tie
-use Rattle.console.proofs.flush.Reads as reads
-use Rattle.console.proofs.flush.Lts as lts
-use Rattle.io.proofs.write_all.Reads as write-all-reads
 
--- src/lib.rt:27:45
 slice-aggregate-write-all : tie.Need-slice-aggregate-write-all
 slice-aggregate-write-all c = sym (length-take-le _ _ (search needs))
 
--- src/lib.rt:27:9
 write-all-requires : tie.Need-write-all-requires
 write-all-requires c κs = search needs
 
--- src/lib.rt:27:9
 returns : tie.Need-returns
 returns c = search needs
 
--- src/lib.rt:29:5
 write-all-requires-2 : tie.Need-write-all-requires-2
 write-all-requires-2 c κs = search needs
 
--- src/lib.rt:25:1
 returns-2 : tie.Need-returns-2
 returns-2 c = search needs
 

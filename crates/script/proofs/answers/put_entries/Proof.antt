@@ -11,10 +11,10 @@ use Rattle.script.proofs.answers.put_entries.Statement.{statement}
 use Rattle.script.proofs.answers.put_entries.Tie as tie
 
 abbrev Inv-loop : tie.InvT-loop
-Inv-loop out₀ at state keys times fields records n next₀ i₀ out next i = (length out ≡ length out₀) × (i ≤ n) × (sheet out next ≡ writesBelow (entryLine (tableOf state keys times fields records)) i (sheet out₀ at))
+Inv-loop out₀ at state n keys times fields records next₀ i₀ out next i = (length out ≡ length out₀) × (i ≤ n) × (sheet out next ≡ writesBelow (entryLine (tableOf state keys times fields records)) i (sheet out₀ at))
 
 abbrev μ-loop : tie.MeasureT-loop
-μ-loop out₀ at state keys times fields records n next₀ i₀ out next i = n - i
+μ-loop out₀ at state n keys times fields records next₀ i₀ out next i = n - i
 
 loop-holds : tie.Need-loop-holds Inv-loop μ-loop
 loop-holds c = (refl, omega arith, sym (below-none _ _))
@@ -47,7 +47,7 @@ returns c =
     let a = c .before .before .before .before .before .before .before .args in
     let t = tableOf (a .state) (a .keys .now) (a .times .now) (a .fields .now) (a .records .now) in
     c .before .loop .inv .2
-    ∙ ap (λ (k : ℕ). writesBelow (entryLine t) k (sheet (a .out .now) (a .at))) {x = c .before .loop .i} {y = a .state .entries} (omega arith)
+    ∙ ap (λ (k : ℕ). writesBelow (entryLine t) k (sheet (a .out .now) (a .at))) {x = c .before .loop .i} {y = a .n} (omega arith)
 
 pub put-entries-spec : {M : Type 1} → statement M
 put-entries-spec =

@@ -1,5 +1,6 @@
 -- `script::calls::add` meets its contract. Assumes nothing.
-use mathlib.Core.Path.{_∙_}
+use mathlib.Core.Path.{ap, _∙_}
+use Rattle.requests.specs.Requests.{membershipOf}
 use Rattle.scenes.specs.Table.{Table, tableOf}
 use Rattle.scenes.specs.Commands.{addScene}
 use Rattle.script.specs.Calls.{plain, add}
@@ -39,11 +40,14 @@ element-copy-out-long c = search needs
 long-requires : tie.Need-long-requires
 long-requires c κs = search needs
 
-element-copy-out-membership : tie.Need-element-copy-out-membership
-element-copy-out-membership c = search needs
+element-copy-out-byte : tie.Need-element-copy-out-byte
+element-copy-out-byte c = search needs
 
-membership-requires : tie.Need-membership-requires
-membership-requires c κs = search needs
+byte-requires : tie.Need-byte-requires
+byte-requires c κs = search needs
+
+of-number-requires : tie.Need-of-number-requires
+of-number-requires c κs = search needs
 
 add-scene-requires : tie.Need-add-scene-requires
 add-scene-requires c κs = search needs
@@ -65,7 +69,7 @@ same-length-4 c = search needs
 
 returns : tie.Need-returns
 unfolding add
-returns c = plain-done _ _ _ _ _ _ _ (c .plain .ensures) (c .before .before .before .before .before .before .before .before .before .add-scene .ensures) ∙ (λ i. plain (addScene (c .before .before .before .before .before .before .before .before .before .before .before .before .before .before .before .before .before .before .scene-key .ensures i) (c .before .before .before .before .before .before .before .before .before .before .before .before .before .before .before .before .long .ensures i) (c .before .before .before .before .before .before .before .before .before .before .before .before .before .before .membership .ensures i) (c .before .before .before .before .before .before .before .before .before .before .before .before .before .before .before .before .before .before .before .before .before .before .part .ensures i) (c .before .before .before .before .before .before .before .before .before .before .before .before .before .before .before .before .before .before .before .part2 .ensures i) (came (c .before .before .before .before .before .before .before .before .before .before .before .before .before .before .before .before .before .before .before .before .before .before .before .before .before .before .before .before .before .before))))
+returns c = plain-done _ _ _ _ _ _ _ (c .plain .ensures) (c .before .before .before .before .before .before .before .before .before .add-scene .ensures) ∙ (λ i. plain (addScene (c .before .before .before .before .before .before .before .before .before .before .before .before .before .before .before .before .before .before .before .scene-key .ensures i) (c .before .before .before .before .before .before .before .before .before .before .before .before .before .before .before .before .before .long .ensures i) ((c .before .before .before .before .before .before .before .before .before .before .before .before .before .before .of-number .ensures ∙ ap membershipOf (c .before .before .before .before .before .before .before .before .before .before .before .before .before .before .before .byte .ensures)) i) (c .before .before .before .before .before .before .before .before .before .before .before .before .before .before .before .before .before .before .before .before .before .before .before .part .ensures i) (c .before .before .before .before .before .before .before .before .before .before .before .before .before .before .before .before .before .before .before .before .part2 .ensures i) (came (c .before .before .before .before .before .before .before .before .before .before .before .before .before .before .before .before .before .before .before .before .before .before .before .before .before .before .before .before .before .before .before))))
 
 pub add-spec : {M : Type 1} → statement M
 add-spec =
@@ -80,8 +84,9 @@ add-spec =
     scene-key-requires
     element-copy-out-long
     long-requires
-    element-copy-out-membership
-    membership-requires
+    element-copy-out-byte
+    byte-requires
+    of-number-requires
     add-scene-requires
     plain-requires
     same-length

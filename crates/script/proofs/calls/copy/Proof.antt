@@ -1,5 +1,6 @@
 -- `script::calls::copy` meets its contract. Assumes nothing.
-use mathlib.Core.Path.{_∙_}
+use mathlib.Core.Path.{ap, _∙_}
+use Rattle.requests.specs.Requests.{membershipOf}
 use Rattle.scenes.specs.Table.{Table, tableOf}
 use Rattle.scenes.specs.Copy.{copyScene}
 use Rattle.script.specs.Calls.{plain, copy}
@@ -15,17 +16,23 @@ came s = let a = s .args in tableOf (a .state) (a .keys .now) (a .times .now) (a
 copy-request-requires : tie.Need-copy-request-requires
 copy-request-requires c κs = search needs
 
-element-copy-out-membership : tie.Need-element-copy-out-membership
-element-copy-out-membership c = search needs
+element-copy-out-byte : tie.Need-element-copy-out-byte
+element-copy-out-byte c = search needs
 
-membership-requires : tie.Need-membership-requires
-membership-requires c κs = search needs
+byte-requires : tie.Need-byte-requires
+byte-requires c κs = search needs
 
-element-copy-out-membership-2 : tie.Need-element-copy-out-membership-2
-element-copy-out-membership-2 c = search needs
+of-number-requires : tie.Need-of-number-requires
+of-number-requires c κs = search needs
 
-membership-requires-2 : tie.Need-membership-requires-2
-membership-requires-2 c κs = search needs
+element-copy-out-byte-2 : tie.Need-element-copy-out-byte-2
+element-copy-out-byte-2 c = search needs
+
+byte-requires-2 : tie.Need-byte-requires-2
+byte-requires-2 c κs = search needs
+
+of-number-requires-2 : tie.Need-of-number-requires-2
+of-number-requires-2 c κs = search needs
 
 copy-scene-requires : tie.Need-copy-scene-requires
 copy-scene-requires c κs = search needs
@@ -47,17 +54,19 @@ same-length-4 c = search needs
 
 returns : tie.Need-returns
 unfolding copy
-returns c = plain-done _ _ _ _ _ _ _ (c .plain .ensures) (c .before .before .before .before .before .before .before .before .before .copy-scene .ensures) ∙ (λ i. plain (copyScene (c .before .before .before .before .before .before .before .before .before .before .before .before .before .before .before .before .before .before .copy-request .ensures i) (c .before .before .before .before .before .before .before .before .before .before .before .before .before .before .before .before .membership .ensures i) (c .before .before .before .before .before .before .before .before .before .before .before .before .before .before .membership2 .ensures i) (came (c .before .before .before .before .before .before .before .before .before .before .before .before .before .before .before .before .before .before .before .before .before .before .before))))
+returns c = plain-done _ _ _ _ _ _ _ (c .plain .ensures) (c .before .before .before .before .before .before .before .before .before .copy-scene .ensures) ∙ (λ i. plain (copyScene (c .before .before .before .before .before .before .before .before .before .before .before .before .before .before .before .before .before .before .before .before .copy-request .ensures i) ((c .before .before .before .before .before .before .before .before .before .before .before .before .before .before .before .before .before .of-number .ensures ∙ ap membershipOf (c .before .before .before .before .before .before .before .before .before .before .before .before .before .before .before .before .before .before .byte .ensures)) i) ((c .before .before .before .before .before .before .before .before .before .before .before .before .before .before .of-number2 .ensures ∙ ap membershipOf (c .before .before .before .before .before .before .before .before .before .before .before .before .before .before .before .byte2 .ensures)) i) (came (c .before .before .before .before .before .before .before .before .before .before .before .before .before .before .before .before .before .before .before .before .before .before .before .before .before))))
 
 pub copy-spec : {M : Type 1} → statement M
 copy-spec =
     tie.close
     (tie.spec
     copy-request-requires
-    element-copy-out-membership
-    membership-requires
-    element-copy-out-membership-2
-    membership-requires-2
+    element-copy-out-byte
+    byte-requires
+    of-number-requires
+    element-copy-out-byte-2
+    byte-requires-2
+    of-number-requires-2
     copy-scene-requires
     plain-requires
     same-length

@@ -1,5 +1,6 @@
 -- `script::calls::recall` meets its contract. Assumes nothing.
-use mathlib.Core.Path.{_∙_}
+use mathlib.Core.Path.{ap, _∙_}
+use Rattle.requests.specs.Requests.{membershipOf}
 use Rattle.scenes.specs.Table.{Table, tableOf}
 use Rattle.scenes.specs.Reads.{recallLookup}
 use Rattle.scenes.specs.Commands.{recallScene}
@@ -16,11 +17,14 @@ came s = let a = s .args in tableOf (a .state) (a .keys .now) (a .times .now) (a
 scene-key-requires : tie.Need-scene-key-requires
 scene-key-requires c κs = search needs
 
-element-copy-out-membership : tie.Need-element-copy-out-membership
-element-copy-out-membership c = search needs
+element-copy-out-byte : tie.Need-element-copy-out-byte
+element-copy-out-byte c = search needs
 
-membership-requires : tie.Need-membership-requires
-membership-requires c κs = search needs
+byte-requires : tie.Need-byte-requires
+byte-requires c κs = search needs
+
+of-number-requires : tie.Need-of-number-requires
+of-number-requires c κs = search needs
 
 element-copy-out-transition : tie.Need-element-copy-out-transition
 element-copy-out-transition c = search needs
@@ -50,16 +54,17 @@ returns : tie.Need-returns
 unfolding recall
 returns c =
     recalled-done _ _ _ _ _ _ _ _ _ (c .scene-tail .ensures)
-    (c .before .before .before .before .before .before .recall-lookup .ensures ∙ (λ i. recallLookup (c .before .before .before .before .before .before .before .before .before .before .before .before .before .before .scene-key .ensures i) (c .before .before .before .before .before .before .before .before .before .before .before .before .membership .ensures i) (c .before .before .before .before .before .before .before .before .before .before .transition .ensures i) (came (c .before .before .before .before .before .before .before .before .before .before .before .before .before .before .before .before .before .before .before))))
-    (c .before .before .before .before .recall-scene .ensures ∙ (λ i. recallScene (c .before .before .before .before .before .before .before .before .before .before .before .before .before .before .scene-key .ensures i) (c .before .before .before .before .before .before .before .before .before .before .before .before .membership .ensures i) (c .before .before .before .before .before .before .before .before .applied .ensures i) (came (c .before .before .before .before .before .before .before .before .before .before .before .before .before .before .before .before .before .before .before))))
+    (c .before .before .before .before .before .before .recall-lookup .ensures ∙ (λ i. recallLookup (c .before .before .before .before .before .before .before .before .before .before .before .before .before .before .before .scene-key .ensures i) ((c .before .before .before .before .before .before .before .before .before .before .before .before .of-number .ensures ∙ ap membershipOf (c .before .before .before .before .before .before .before .before .before .before .before .before .before .byte .ensures)) i) (c .before .before .before .before .before .before .before .before .before .before .transition .ensures i) (came (c .before .before .before .before .before .before .before .before .before .before .before .before .before .before .before .before .before .before .before .before))))
+    (c .before .before .before .before .recall-scene .ensures ∙ (λ i. recallScene (c .before .before .before .before .before .before .before .before .before .before .before .before .before .before .before .scene-key .ensures i) ((c .before .before .before .before .before .before .before .before .before .before .before .before .of-number .ensures ∙ ap membershipOf (c .before .before .before .before .before .before .before .before .before .before .before .before .before .byte .ensures)) i) (c .before .before .before .before .before .before .before .before .applied .ensures i) (came (c .before .before .before .before .before .before .before .before .before .before .before .before .before .before .before .before .before .before .before .before))))
 
 pub recall-spec : {M : Type 1} → statement M
 recall-spec =
     tie.close
     (tie.spec
     scene-key-requires
-    element-copy-out-membership
-    membership-requires
+    element-copy-out-byte
+    byte-requires
+    of-number-requires
     element-copy-out-transition
     transition-requires
     element-copy-out-applied

@@ -1,5 +1,6 @@
 -- `script::calls::store` meets its contract. Assumes nothing.
-use mathlib.Core.Path.{_∙_}
+use mathlib.Core.Path.{ap, _∙_}
+use Rattle.requests.specs.Requests.{membershipOf}
 use Rattle.scenes.specs.Table.{Table, tableOf}
 use Rattle.scenes.specs.Commands.{storeScene}
 use Rattle.script.specs.Calls.{plain, store}
@@ -24,11 +25,14 @@ part-requires c κs = search needs
 scene-key-requires : tie.Need-scene-key-requires
 scene-key-requires c κs = search needs
 
-element-copy-out-membership : tie.Need-element-copy-out-membership
-element-copy-out-membership c = search needs
+element-copy-out-byte : tie.Need-element-copy-out-byte
+element-copy-out-byte c = search needs
 
-membership-requires : tie.Need-membership-requires
-membership-requires c κs = search needs
+byte-requires : tie.Need-byte-requires
+byte-requires c κs = search needs
+
+of-number-requires : tie.Need-of-number-requires
+of-number-requires c κs = search needs
 
 store-scene-requires : tie.Need-store-scene-requires
 store-scene-requires c κs = search needs
@@ -50,7 +54,7 @@ same-length-4 c = search needs
 
 returns : tie.Need-returns
 unfolding store
-returns c = plain-done _ _ _ _ _ _ _ (c .plain .ensures) (c .before .before .before .before .before .before .before .before .before .store-scene .ensures) ∙ (λ i. plain (storeScene (c .before .before .before .before .before .before .before .before .before .before .before .before .before .before .before .before .scene-key .ensures i) (c .before .before .before .before .before .before .before .before .before .before .before .before .before .before .membership .ensures i) (c .before .before .before .before .before .before .before .before .before .before .before .before .before .before .before .before .before .part .ensures i) (came (c .before .before .before .before .before .before .before .before .before .before .before .before .before .before .before .before .before .before .before .before .before .before .before .before .before))))
+returns c = plain-done _ _ _ _ _ _ _ (c .plain .ensures) (c .before .before .before .before .before .before .before .before .before .store-scene .ensures) ∙ (λ i. plain (storeScene (c .before .before .before .before .before .before .before .before .before .before .before .before .before .before .before .before .before .scene-key .ensures i) ((c .before .before .before .before .before .before .before .before .before .before .before .before .before .before .of-number .ensures ∙ ap membershipOf (c .before .before .before .before .before .before .before .before .before .before .before .before .before .before .before .byte .ensures)) i) (c .before .before .before .before .before .before .before .before .before .before .before .before .before .before .before .before .before .before .part .ensures i) (came (c .before .before .before .before .before .before .before .before .before .before .before .before .before .before .before .before .before .before .before .before .before .before .before .before .before .before))))
 
 pub store-spec : {M : Type 1} → statement M
 store-spec =
@@ -60,8 +64,9 @@ store-spec =
     element-copy-out-part-2
     part-requires
     scene-key-requires
-    element-copy-out-membership
-    membership-requires
+    element-copy-out-byte
+    byte-requires
+    of-number-requires
     store-scene-requires
     plain-requires
     same-length

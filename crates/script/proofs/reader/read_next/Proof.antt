@@ -1,12 +1,15 @@
 -- `script::reader::read_next` meets its contract. Assumes nothing.
-use Prim.Native.Nat.{_-_}
-use mathlib.Core.Path.{ap, _∙_}
+use Prim.Native.Nat.{ℕ, _+_, _-_}
+use mathlib.Core.Path.{_≡_, ap, _∙_}
+use mathlib.Core.List.{List, _++_}
 use native.Mathlib.Omega.{arith}
-use lib.ListN.{drop}
-use borrow.Rule.Slice.PartMut.{same-len-mid, mid-len, take-put, drop-put}
+use lib.ListN.{take, drop}
+use lib.Seq.{drop-drop}
+use borrow.Rule.Slice.PartMut.{same-len-mid}
+use Rattle.text.specs.Reading.{Turned}
 use Rattle.text.proofs.Reading.{word-start, word-end}
-use Rattle.script.specs.Lines.{meaning, wordSays}
-use Rattle.script.proofs.LineLaws.{word-from, word-is, word-rest, later-word}
+use Rattle.script.specs.Lines.{readAs, wordSays}
+use Rattle.script.proofs.LineLaws.{word-is}
 use borrow.Author.Needs.{needs}
 use Rattle.script.proofs.reader.read_next.Statement.{statement}
 use Rattle.script.proofs.reader.read_next.Tie as tie
@@ -37,20 +40,13 @@ returns c =
     let line = a .line .now in
     let w = c .before .before .before .before .next-word .result in
     let e = c .before .before .before .before .next-word .ensures in
-    let after = c .before .before .read-word .last .0 in
     let o = word-start line (a .at) w e in
-    let h = word-end line (a .at) w e (c .before .before .before .before .before .before .before .pre) in
-    let l = c .before .before .read-word .kept .0 ∙ mid-len (w .from) (w .to) line h in
+    let read = c .before .before .read-word .ensures ∙ ap (λ (x : List ℕ). readAs (wordSays (a .trace) (a .kind) x) x) (word-is line (a .at) w e) in
+    let rest : drop (w .to - w .from) (drop (w .from) line) ≡ drop (w .to) line = drop-drop (w .to - w .from) (w .from) line ∙ ap (λ (n : ℕ). drop n line) (let n : w .from + (w .to - w .from) ≡ w .to = omega arith in n) in
     record {
-      from = word-from line (a .at) w e;
-      order = o;
-      within = h;
-      before = take-put (w .from) (w .to - w .from) line after (omega arith);
-      rest = drop-put (w .from) (w .to) line after o h l ∙ word-rest line (a .at) w e;
-      says = λ later q.
-          ap (meaning (a .kind) (c .before .before .read-word .result)) (later-word (w .from) (w .to) line after o h l later q)
-          ∙ c .before .before .read-word .ensures (drop (w .to) later)
-          ∙ ap (wordSays (a .trace) (a .kind)) (word-is line (a .at) w e);
+      span = e;
+      answer = ap (λ (t : Turned). t .answer) read;
+      left = λ i. take (w .from) line ++ (read i .word ++ rest i);
     }
 
 pub read-next-spec : {M : Type 1} → statement M

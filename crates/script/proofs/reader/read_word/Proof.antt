@@ -1,12 +1,9 @@
 -- `script::reader::read_word` meets its contract. Assumes nothing.
 use Prim.Native.Nat.{ℕ}
-use mathlib.Core.List.{_++_}
 use mathlib.Core.Path.{ap, _∙_}
 use borrow.Author.Tests.{eq-eqb, ne-eqb}
-use Rattle.text.specs.Reading.{numberOf, inFront}
-use Rattle.text.specs.declared.input.Word.{Word}
-use Rattle.script.specs.Lines.{numeral, spelling}
-use Rattle.script.proofs.LineLaws.{front-says}
+use Rattle.text.specs.Reading.{numberOf, orDash, digitBytes, hexPairs}
+use Rattle.script.proofs.LineLaws.{number-read, spelling-read}
 use borrow.Author.Needs.{needs}
 use Rattle.script.proofs.reader.read_word.Statement.{statement}
 use Rattle.script.proofs.reader.read_word.Tie as tie
@@ -15,7 +12,7 @@ enum-told : tie.Need-enum-told
 enum-told c = search needs
 
 returns : tie.Need-returns
-returns c = λ rest. rw (c .before .enum-told .given .1, eq-eqb _ _ (c .if1 .taken))
+returns c = rw (c .before .enum-told .given .1, eq-eqb _ _ (c .if1 .taken))
 
 enum-told-2 : tie.Need-enum-told-2
 enum-told-2 c = search needs
@@ -62,17 +59,11 @@ enum-told-8 c = search needs
 digits-requires : tie.Need-digits-requires
 digits-requires c κs = search needs
 
-front-requires : tie.Need-front-requires
-front-requires c κs = search needs
-
 enum-told-9 : tie.Need-enum-told-9
 enum-told-9 c = search needs
 
 hex-requires : tie.Need-hex-requires
 hex-requires c κs = search needs
-
-front-requires-2 : tie.Need-front-requires-2
-front-requires-2 c κs = search needs
 
 enum-told-10 : tie.Need-enum-told-10
 enum-told-10 c = search needs
@@ -84,73 +75,73 @@ enum-told-11 : tie.Need-enum-told-11
 enum-told-11 c = search needs
 
 returns-2 : tie.Need-returns-2
-returns-2 c = λ rest. rw (c .before .enum-told11 .given .1, eq-eqb _ _ (c .if2 .taken))
+returns-2 c = rw (c .before .enum-told11 .given .1, eq-eqb _ _ (c .if2 .taken))
 
 number-requires-7 : tie.Need-number-requires-7
 number-requires-7 c κs = search needs
 
 returns-3 : tie.Need-returns-3
-returns-3 c = λ rest. rw (c .before .enum-told .given .1, ne-eqb _ _ (c .if1 .left))
+returns-3 c = rw (c .before .enum-told .given .1, ne-eqb _ _ (c .if1 .left))
 
 same-length : tie.Need-same-length
 same-length c = search needs
 
 returns-4 : tie.Need-returns-4
-returns-4 c = λ rest. rw (c .before .before .enum-told2 .given .1) (ap numeral (c .number .ensures))
+returns-4 c = rw (c .before .before .enum-told2 .given .1) (number-read (c .before .before .before .before .before .args .word .now) (c .number .ensures))
 
 same-length-2 : tie.Need-same-length-2
 same-length-2 c = search needs
 
 returns-5 : tie.Need-returns-5
-returns-5 c = λ rest. rw (c .before .before .enum-told3 .given .1) (ap numeral (c .number2 .ensures))
+returns-5 c = rw (c .before .before .enum-told3 .given .1) (number-read (c .before .before .before .before .before .args .word .now) (c .number2 .ensures))
 
 same-length-3 : tie.Need-same-length-3
 same-length-3 c = search needs
 
 returns-6 : tie.Need-returns-6
-returns-6 c = λ rest. rw (c .before .before .enum-told4 .given .1) (ap numeral (c .number3 .ensures))
+returns-6 c = rw (c .before .before .enum-told4 .given .1) (number-read (c .before .before .before .before .before .args .word .now) (c .number3 .ensures))
 
 same-length-4 : tie.Need-same-length-4
 same-length-4 c = search needs
 
 returns-7 : tie.Need-returns-7
-returns-7 c = λ rest. rw (c .before .before .enum-told5 .given .1) (ap numeral (c .number4 .ensures))
+returns-7 c = rw (c .before .before .enum-told5 .given .1) (number-read (c .before .before .before .before .before .args .word .now) (c .number4 .ensures))
 
 same-length-5 : tie.Need-same-length-5
 same-length-5 c = search needs
 
 returns-8 : tie.Need-returns-8
-returns-8 c = λ rest. rw (c .before .before .enum-told6 .given .1) (ap numeral (c .number5 .ensures))
+returns-8 c = rw (c .before .before .enum-told6 .given .1) (number-read (c .before .before .before .before .before .args .word .now) (c .number5 .ensures))
 
 same-length-6 : tie.Need-same-length-6
 same-length-6 c = search needs
 
 returns-9 : tie.Need-returns-9
-returns-9 c = λ rest. rw (c .before .before .before .enum-told7 .given .1) (ap numeral (c .number6 .ensures ∙ ap (λ (m : ℕ). numberOf m (c .before .before .before .before .before .before .args .word .now)) (c .before .most-scenes .ensures)))
+returns-9 c = rw (c .before .before .before .enum-told7 .given .1) (number-read (c .before .before .before .before .before .before .args .word .now) (c .number6 .ensures ∙ ap (λ (m : ℕ). numberOf m (c .before .before .before .before .before .before .args .word .now)) (c .before .most-scenes .ensures)))
 
 same-length-7 : tie.Need-same-length-7
 same-length-7 c = search needs
 
 returns-10 : tie.Need-returns-10
-returns-10 c = λ rest. rw (c .before .before .before .before .before .enum-told8 .given .1) (ap spelling (ap (λ (w : Word). inFront w (c .before .before .before .digits .last .0 ++ rest)) (c .front .ensures) ∙ front-says (c .before .before .before .digits .result) _ rest ∙ c .before .before .before .digits .ensures))
+returns-10 c = let w = c .before .before .before .before .before .before .before .args .word .now in rw (c .before .before .before .before .enum-told8 .given .1) (c .before .before .digits .ensures ∙ spelling-read (orDash w (digitBytes w)) w)
 
 same-length-8 : tie.Need-same-length-8
 same-length-8 c = search needs
 
 returns-11 : tie.Need-returns-11
-returns-11 c = λ rest. rw (c .before .before .before .before .before .enum-told9 .given .1) (ap spelling (ap (λ (w : Word). inFront w (c .before .before .before .hex .last .0 ++ rest)) (c .front2 .ensures) ∙ front-says (c .before .before .before .hex .result) _ rest ∙ c .before .before .before .hex .ensures))
+returns-11 c = let w = c .before .before .before .before .before .before .before .args .word .now in rw (c .before .before .before .before .enum-told9 .given .1) (c .before .before .hex .ensures ∙ spelling-read (orDash w (hexPairs w)) w)
 
 same-length-9 : tie.Need-same-length-9
 same-length-9 c = search needs
 
 returns-12 : tie.Need-returns-12
-returns-12 c = λ rest. rw (c .before .before .enum-told10 .given .1) (ap numeral (c .transition .ensures))
+returns-12 c = rw (c .before .before .enum-told10 .given .1) (number-read (c .before .before .before .before .before .args .word .now) (c .transition .ensures))
 
 same-length-10 : tie.Need-same-length-10
 same-length-10 c = search needs
 
 returns-13 : tie.Need-returns-13
-returns-13 c = λ rest. rw (c .before .before .before .enum-told11 .given .1, ne-eqb _ _ (c .before .before .if2 .left)) (ap numeral (c .number7 .ensures))
+returns-13 c = rw (c .before .before .before .enum-told11 .given .1, ne-eqb _ _ (c .before .before .if2 .left)) (number-read (c .before .before .before .before .before .before .args .word .now) (c .number7 .ensures))
 
 pub read-word-spec : {M : Type 1} → statement M
 read-word-spec =
@@ -173,10 +164,8 @@ read-word-spec =
     number-requires-6
     enum-told-8
     digits-requires
-    front-requires
     enum-told-9
     hex-requires
-    front-requires-2
     enum-told-10
     transition-requires
     enum-told-11

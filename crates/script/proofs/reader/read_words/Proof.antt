@@ -1,14 +1,14 @@
 -- `script::reader::read_words` meets its contract. Assumes nothing.
 use Prim.Native.Nat.{ℕ, _-_, _≤_, _<_}
 use mathlib.Core.Path.{_≡_, refl, sym, ap, subst, _∙_}
-use mathlib.Core.List.{List, [], map}
+use mathlib.Core.List.{List, [], _++_, map}
 use native.Mathlib.Omega.{arith}
-use lib.ListN.{length, drop, length-set}
+use lib.ListN.{length, take, drop, length-set}
 use Rattle.words.specs.Below.{positions}
 use Rattle.script.specs.declared.reader.Kind.{Kind}
 use Rattle.script.specs.declared.reader.Verdict.{Verdict}
-use Rattle.script.specs.Lines.{wordsSay, Call, wordRead, verdictSays}
-use Rattle.script.proofs.LineLaws.{Says, words-start, words-end, words-wrong, words-more, kinds-length}
+use Rattle.script.specs.Lines.{wordsSay, Call, wordsLeft, wordRead, verdictSays}
+use Rattle.script.proofs.LineLaws.{Says, reads-within, words-start, words-end, words-wrong, words-more, left-end, left-wrong, left-more, kinds-length}
 use Rattle.script.proofs.reader.read_words.Statement.{statement}
 use Rattle.script.proofs.reader.read_words.Tie as tie
 
@@ -20,6 +20,7 @@ Inv-loop line₀ start letter trace kinds values₀ starts₀ at₀ i₀ line va
     × (length starts ≡ 10)
     × (i ≤ 10)
     × Says trace letter kinds values starts line at i (drop start line₀)
+    × (take start line₀ ++ wordsLeft trace kinds (drop start line₀) ≡ take at line ++ wordsLeft trace (drop i kinds) (drop at line))
 
 abbrev μ-loop : tie.MeasureT-loop
 μ-loop line₀ start letter trace kinds values₀ starts₀ at₀ i₀ line values starts at i = 10 - i
@@ -29,7 +30,7 @@ kinds-of-requires c κs = tt
 
 loop-holds : tie.Need-loop-holds Inv-loop μ-loop
 unfolding positions
-loop-holds c = (refl, c .before .before .pre, refl, refl, omega arith, λ later q. words-start _ _ _ [] [] later _)
+loop-holds c = (refl, c .before .before .pre, refl, refl, omega arith, λ later q. words-start _ _ _ [] [] later _, refl)
 
 array-copy-out-read-next : tie.Need-array-copy-out-read-next Inv-loop μ-loop
 array-copy-out-read-next c = omega arith
@@ -65,10 +66,20 @@ returns : tie.Need-returns Inv-loop μ-loop
 returns c =
     let a = c .before .before .before .before .before .before .before .before .before .before .before .before .before .args in
     let p = c .before .before .before .before .before .before .before .before .before .before .loop in
-    let l : c .before .before .before .before .before .before .before .before .before .before .loop .i < length (c .before .before .before .before .before .before .before .before .before .before .before .kinds-of .result) = let k = ap length (c .before .before .before .before .before .before .before .before .before .before .before .kinds-of .ensures) ∙ kinds-length _ in omega arith in
-    ap (λ (v : Verdict). verdictSays v (c .empty .result) (c .before .before .before .before .before .before .read-next .last .0)) (c .empty .ensures)
-    ∙ sym (words-wrong _ _ _ (p .values) (p .starts) (p .line) (p .at) (p .i) _ _ _ l (c .before .before .before .before .before .before .before .before .before .before .loop .inv .5) (c .before .before .before .before .before .before .read-next .ensures) _ (c .before .before .word2 .given .1))
-    ∙ ap (λ (ks : List Kind). wordsSay (a .trace) (a .letter) ks (drop (a .start) (a .line .now))) (c .before .before .before .before .before .before .before .before .before .before .before .kinds-of .ensures)
+    let kinds = c .before .before .before .before .before .before .before .before .before .before .before .kinds-of in
+    let next = c .before .before .before .before .before .before .read-next in
+    let wrong = c .before .before .word2 .given .1 in
+    let h : p .at ≤ length (p .line) = omega (arith, p .inv .0, p .inv .1) in
+    let l : p .i < length (kinds .result) = let k = ap length (kinds .ensures) ∙ kinds-length _ in omega arith in
+    record {
+      says =
+          ap (λ (v : Verdict). verdictSays v (c .empty .result) (next .last .0)) (c .empty .ensures)
+          ∙ sym (words-wrong _ _ _ (p .values) (p .starts) (p .line) (p .at) (p .i) _ _ _ l (next .ensures) h (next .kept .0) (p .inv .5) _ wrong)
+          ∙ ap (λ (ks : List Kind). wordsSay (a .trace) (a .letter) ks (drop (a .start) (a .line .now))) (kinds .ensures);
+      line =
+          sym (p .inv .6 ∙ left-wrong _ (a .letter) _ (p .values) (p .starts) (p .line) (p .at) (p .i) [] _ _ l (next .ensures) h (next .kept .0) _ wrong)
+          ∙ ap (λ (ks : List Kind). take (a .start) (a .line .now) ++ wordsLeft (a .trace) ks (drop (a .start) (a .line .now))) (kinds .ensures);
+    }
 
 add-i : tie.Need-add-i Inv-loop μ-loop
 add-i c = omega arith
@@ -80,13 +91,18 @@ loop-again : tie.Need-loop-again Inv-loop μ-loop
 loop-again c =
     let p = c .before .before .before .before .before .before .before .before .before .loop in
     let at = p .inv in
-    let l : c .before .before .before .before .before .before .before .before .before .loop .i < length (c .before .before .before .before .before .before .before .before .before .before .kinds-of .result) = let k = ap length (c .before .before .before .before .before .before .before .before .before .before .kinds-of .ensures) ∙ kinds-length _ in omega arith in (
-      c .before .before .before .before .before .read-next .kept .0 ∙ at .0,
-      omega (arith, c .before .before .before .before .before .read-next .ensures .within),
+    let kinds = c .before .before .before .before .before .before .before .before .before .before .kinds-of in
+    let next = c .before .before .before .before .before .read-next in
+    let h : p .at ≤ length (p .line) = omega (arith, at .0, at .1) in
+    let l : p .i < length (kinds .result) = let k = ap length (kinds .ensures) ∙ kinds-length _ in omega arith in
+    let within = reads-within _ _ _ _ _ _ (next .ensures) h (next .kept .0) in (
+      next .kept .0 ∙ at .0,
+      omega (arith, within, at .0),
       simp length-set (at .2),
       simp length-set (at .3),
       omega arith,
-      words-more _ _ _ (p .values) (p .starts) (p .line) (p .at) (p .i) _ _ _ l (at .5) (c .before .before .before .before .before .read-next .ensures) _ (c .before .word .given .1) (omega arith) (omega arith),
+      words-more _ _ _ (p .values) (p .starts) (p .line) (p .at) (p .i) _ _ _ l (next .ensures) h (next .kept .0) (at .5) _ (c .before .word .given .1) (omega arith) (omega arith),
+      at .6 ∙ left-more _ (c .before .before .before .before .before .before .before .before .before .before .before .before .args .letter) _ (p .values) (p .starts) (p .line) (p .at) (p .i) [] _ _ l (next .ensures) h (next .kept .0) _ (c .before .word .given .1),
     )
 
 same-length-2 : tie.Need-same-length-2 Inv-loop μ-loop
@@ -96,10 +112,17 @@ returns-2 : tie.Need-returns-2 Inv-loop μ-loop
 returns-2 c =
     let a = c .before .before .before .before .args in
     let p = c .before .loop in
-    let k = ap length (c .before .before .kinds-of .ensures) ∙ kinds-length (a .letter) in
+    let kinds = c .before .before .kinds-of in
+    let k = ap length (kinds .ensures) ∙ kinds-length (a .letter) in
     let i : p .i ≡ 10 = omega arith in
-    sym (subst (λ (ks : List Kind). wordsSay (a .trace) (a .letter) ks (drop (a .start) (a .line .now)) ≡ Call (a .letter) (map (wordRead ks (p .values) (p .starts) (p .line)) (positions 10))) (c .before .before .kinds-of .ensures)
-    (words-end _ _ _ (p .values) (p .starts) (p .line) (p .at) (p .i) _ (p .inv .5) (k ∙ sym i) ∙ ap (λ (n : ℕ). Call (a .letter) (map (wordRead (c .before .before .kinds-of .result) (p .values) (p .starts) (p .line)) (positions n))) i))
+    record {
+      says =
+          sym (subst (λ (ks : List Kind). wordsSay (a .trace) (a .letter) ks (drop (a .start) (a .line .now)) ≡ Call (a .letter) (map (wordRead ks (p .values) (p .starts) (p .line)) (positions 10))) (kinds .ensures)
+          (words-end _ _ _ (p .values) (p .starts) (p .line) (p .at) (p .i) _ (p .inv .5) (k ∙ sym i) ∙ ap (λ (n : ℕ). Call (a .letter) (map (wordRead (kinds .result) (p .values) (p .starts) (p .line)) (positions n))) i));
+      line =
+          sym (p .inv .6 ∙ left-end _ (a .letter) _ (p .values) (p .starts) (p .line) (p .at) (p .i) [] (k ∙ sym i))
+          ∙ ap (λ (ks : List Kind). take (a .start) (a .line .now) ++ wordsLeft (a .trace) ks (drop (a .start) (a .line .now))) (kinds .ensures);
+    }
 
 pub read-words-spec : {M : Type 1} → statement M
 read-words-spec =

@@ -6,7 +6,7 @@ use Rattle.text.specs.Writing.{sheet}
 use Rattle.script.specs.declared.runner.Machine.{Machine}
 use Rattle.script.specs.declared.reader.Line.{Line}
 use Rattle.script.specs.declared.reader.Verdict.{Verdict}
-use Rattle.script.specs.Lines.{Said, lineSays, verdictSays, saidOf}
+use Rattle.script.specs.Lines.{lineSays, lineLeft, ReadsLine, verdictSays, saidOf}
 use Rattle.script.specs.Calls.{bytesAt}
 use Rattle.script.specs.Running.{counted, Session, session, wrong, obeyed, saidRuns, runLine}
 use Rattle.script.proofs.RunLaws.{ended, same-words}
@@ -14,14 +14,18 @@ use borrow.Author.Needs.{needs}
 use Rattle.script.proofs.runner.run_line.Statement.{statement}
 use Rattle.script.proofs.runner.run_line.Tie as tie
 
--- all that came in, at a machine
-abbrev came : tie.Start → Machine → Session
-came s m = let a = s .args in session m (a .keys .now) (a .times .now) (a .fields .now) (a .records .now) (a .ids .now) (sheet (a .out .now) (a .at))
+-- all that came in, at a machine and with a line
+abbrev came : tie.Start → List ℕ → Machine → Session
+came s line m = let a = s .args in session m (a .keys .now) (a .times .now) (a .fields .now) (a .records .now) (a .ids .now) line (sheet (a .out .now) (a .at))
 
--- what was read says what the line says
-says : (c : tie.Start) (m : Machine) (read : Line) (after : List ℕ) → m ≡ counted (c .args .machine) → saidOf read after ≡ lineSays (m .trace) (c .args .line .now)
-    → saidRuns (saidOf read after) (came c (counted (c .args .machine))) ≡ runLine (c .args .line .now) (came c (counted (c .args .machine)))
-says c m read after e q = ap (λ (x : Said). saidRuns x (came c (counted (c .args .machine)))) (q ∙ ap (λ (x : Machine). lineSays (x .trace) (c .args .line .now)) e)
+-- what was read says what the line says, and the line is left as it was read
+says : (c : tie.Start) (m : Machine) (read : Line) (after : List ℕ) → m ≡ counted (c .args .machine)
+    → ReadsLine (lineSays (m .trace) (c .args .line .now)) (lineLeft (m .trace) (c .args .line .now)) after read
+    → saidRuns (saidOf read after) (came c after (counted (c .args .machine))) ≡ runLine (came c (c .args .line .now) (counted (c .args .machine)))
+says c m read after e q =
+    let said = q .says ∙ ap (λ (x : Machine). lineSays (x .trace) (c .args .line .now)) e in
+    let left = q .line ∙ ap (λ (x : Machine). lineLeft (x .trace) (c .args .line .now)) e in
+    λ i. saidRuns (said i) (came c (left i) (counted (c .args .machine)))
 
 counted-requires : tie.Need-counted-requires
 counted-requires c κs = search needs
@@ -50,8 +54,8 @@ same-length c = search needs
 returns : tie.Need-returns
 returns c =
     let a = c .before .before .before .before .before .before .before .before .before .before .before .before .before .before .args in
-    ap (came (c .before .before .before .before .before .before .before .before .before .before .before .before .before .before)) (c .before .before .before .before .before .before .counted .ensures)
-    ∙ ap (λ (v : Verdict). saidRuns (verdictSays v (c .before .before .before .before .read-line .result) (c .before .before .before .before .read-line .last .0)) (came (c .before .before .before .before .before .before .before .before .before .before .before .before .before .before) (counted (a .machine)))) (sym (c .enum-told .given .1))
+    ap (came (c .before .before .before .before .before .before .before .before .before .before .before .before .before .before) (c .before .before .before .before .read-line .last .0)) (c .before .before .before .before .before .before .counted .ensures)
+    ∙ ap (λ (v : Verdict). saidRuns (verdictSays v (c .before .before .before .before .read-line .result) (c .before .before .before .before .read-line .last .0)) (came (c .before .before .before .before .before .before .before .before .before .before .before .before .before .before) (c .before .before .before .before .read-line .last .0) (counted (a .machine)))) (sym (c .enum-told .given .1))
     ∙ says (c .before .before .before .before .before .before .before .before .before .before .before .before .before .before) _ (c .before .before .before .before .read-line .result) (c .before .before .before .before .read-line .last .0) (c .before .before .before .before .before .before .counted .ensures) (c .before .before .before .before .read-line .ensures)
 
 same-length-2 : tie.Need-same-length-2
@@ -63,9 +67,9 @@ same-length-3 c = search needs
 returns-2 : tie.Need-returns-2
 returns-2 c =
     let m = c .before .before .before .before .before .before .before .before .before .before .before .counted .result in
-    ended m m _ _ _ _ _ _ _ _ _ _ (c .before .before .wrong .ensures)
-    ∙ ap (λ (m : Machine). wrong (c .before .before .before .before .before .verdict .given .0 .0) (came (c .before .before .before .before .before .before .before .before .before .before .before .before .before .before .before .before .before .before .before) m)) (c .before .before .before .before .before .before .before .before .before .before .before .counted .ensures)
-    ∙ ap (λ (v : Verdict). saidRuns (verdictSays v (c .before .before .before .before .before .before .before .before .before .read-line .result) (c .before .before .before .before .before .before .before .before .before .read-line .last .0)) (came (c .before .before .before .before .before .before .before .before .before .before .before .before .before .before .before .before .before .before .before) (counted (c .before .before .before .before .before .before .before .before .before .before .before .before .before .before .before .before .before .before .before .args .machine)))) (sym (c .before .before .before .before .before .verdict .given .1))
+    ended m m _ _ _ _ _ _ _ _ _ _ _ (c .before .before .wrong .ensures)
+    ∙ ap (λ (m : Machine). wrong (c .before .before .before .before .before .verdict .given .0 .0) (came (c .before .before .before .before .before .before .before .before .before .before .before .before .before .before .before .before .before .before .before) (c .before .before .before .before .before .before .before .before .before .read-line .last .0) m)) (c .before .before .before .before .before .before .before .before .before .before .before .counted .ensures)
+    ∙ ap (λ (v : Verdict). saidRuns (verdictSays v (c .before .before .before .before .before .before .before .before .before .read-line .result) (c .before .before .before .before .before .before .before .before .before .read-line .last .0)) (came (c .before .before .before .before .before .before .before .before .before .before .before .before .before .before .before .before .before .before .before) (c .before .before .before .before .before .before .before .before .before .read-line .last .0) (counted (c .before .before .before .before .before .before .before .before .before .before .before .before .before .before .before .before .before .before .before .args .machine)))) (sym (c .before .before .before .before .before .verdict .given .1))
     ∙ says (c .before .before .before .before .before .before .before .before .before .before .before .before .before .before .before .before .before .before .before) _ (c .before .before .before .before .before .before .before .before .before .read-line .result) (c .before .before .before .before .before .before .before .before .before .read-line .last .0) (c .before .before .before .before .before .before .before .before .before .before .before .counted .ensures) (c .before .before .before .before .before .before .before .before .before .read-line .ensures)
 
 same-length-4 : tie.Need-same-length-4
@@ -93,9 +97,9 @@ returns-3 : tie.Need-returns-3
 returns-3 c =
     let read = c .before .before .before .before .before .before .before .before .before .before .before .before .before .before .before .before .before .before .before .before .before .before .before .before .read-line .result in
     let line = c .before .before .before .before .before .before .before .before .before .before .before .before .before .before .before .before .before .before .before .before .before .before .before .before .read-line .last .0 in
-    let s = came (c .before .before .before .before .before .before .before .before .before .before .before .before .before .before .before .before .before .before .before .before .before .before .before .before .before .before .before .before .before .before .before .before .before .before) (counted (c .before .before .before .before .before .before .before .before .before .before .before .before .before .before .before .before .before .before .before .before .before .before .before .before .before .before .before .before .before .before .before .before .before .before .args .machine)) in
+    let s = came (c .before .before .before .before .before .before .before .before .before .before .before .before .before .before .before .before .before .before .before .before .before .before .before .before .before .before .before .before .before .before .before .before .before .before) line (counted (c .before .before .before .before .before .before .before .before .before .before .before .before .before .before .before .before .before .before .before .before .before .before .before .before .before .before .before .before .before .before .before .before .before .before .args .machine)) in
     c .before .before .before .before .before .before .before .before .before .before .before .before .obeyed .ensures
-    ∙ ap (λ (m : Machine). obeyed (read .letter) (read .values) (bytesAt read line) (came (c .before .before .before .before .before .before .before .before .before .before .before .before .before .before .before .before .before .before .before .before .before .before .before .before .before .before .before .before .before .before .before .before .before .before) m)) (c .before .before .before .before .before .before .before .before .before .before .before .before .before .before .before .before .before .before .before .before .before .before .before .before .before .before .counted .ensures)
+    ∙ ap (λ (m : Machine). obeyed (read .letter) (read .values) (bytesAt read line) (came (c .before .before .before .before .before .before .before .before .before .before .before .before .before .before .before .before .before .before .before .before .before .before .before .before .before .before .before .before .before .before .before .before .before .before) line m)) (c .before .before .before .before .before .before .before .before .before .before .before .before .before .before .before .before .before .before .before .before .before .before .before .before .before .before .counted .ensures)
     ∙ same-words (read .values) (read .starts) line s (read .letter)
     ∙ ap (λ (v : Verdict). saidRuns (verdictSays v read line) s) (sym (c .before .before .before .before .before .before .before .before .before .before .before .before .before .before .before .before .before .before .before .before .enum-told2 .given .1))
     ∙ says (c .before .before .before .before .before .before .before .before .before .before .before .before .before .before .before .before .before .before .before .before .before .before .before .before .before .before .before .before .before .before .before .before .before .before) _ read line (c .before .before .before .before .before .before .before .before .before .before .before .before .before .before .before .before .before .before .before .before .before .before .before .before .before .before .counted .ensures) (c .before .before .before .before .before .before .before .before .before .before .before .before .before .before .before .before .before .before .before .before .before .before .before .before .read-line .ensures)

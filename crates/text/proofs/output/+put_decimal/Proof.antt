@@ -110,7 +110,7 @@ put-decimal-returns-2 : (t : ℕ) → put-decimal-lts.Need-returns-2 (
   put-decimal-below t,
   put-decimal.Post,
 ) (put-decimal-at t) put-decimal.Post
-put-decimal-returns-2 t c = rw (decimal-more _ (c .before .before .before .before .before .before .before .before .if1 .left)) (then _ _ _ _ _ (c .before .before .before .before .before .before .put-decimal .ensures) (c .before .before .put2 .ensures ∙ sym (puts-one _ _)))
+put-decimal-returns-2 t c = rw (decimal-more _ (c .before .before .before .before .before .before .before .before .if1 .left) (omega arith)) (then _ _ _ _ _ (c .before .before .before .before .before .before .put-decimal .ensures) (c .before .before .put2 .ensures ∙ sym (puts-one _ _)))
 
 pub +put-decimal-spec : {M : Type 1} → statement M
 +put-decimal-spec = close μ-put-decimal λ t. put-decimal-lts.spec (

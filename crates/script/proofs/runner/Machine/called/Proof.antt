@@ -8,7 +8,7 @@ use Rattle.script.proofs.runner.Machine.called.Tie as tie
 
 -- all that came in
 abbrev came : tie.Start → Session
-came s = let a = s .args in session (a .self) (a .keys .now) (a .times .now) (a .fields .now) (a .records .now) (a .ids .now) (sheet (a .out .now) (a .at))
+came s = let a = s .args in session (a .self) (a .keys .now) (a .times .now) (a .fields .now) (a .records .now) (a .ids .now) (a .line .now) (sheet (a .out .now) (a .at))
 
 call-requires : tie.Need-call-requires
 call-requires c κs = search needs

@@ -1,15 +1,20 @@
 -- `script::runner::Machine::counted` meets its contract. Assumes nothing.
+use Prim.Native.Nat.{ℕ}
+use mathlib.Core.Path.{ap}
 use Rattle.script.specs.declared.runner.Machine.{Machine}
-use Rattle.script.specs.Running.{counted}
 use borrow.Author.Needs.{needs}
 use Rattle.script.proofs.runner.Machine.counted.Statement.{statement}
 use Rattle.script.proofs.runner.Machine.counted.Tie as tie
+
+-- a machine with another number of lines
+abbrev numbered : Machine → ℕ → Machine
+numbered m n = record { state = m .state; present = m .present; trace = m .trace; lines = n }
 
 wrapping-add-u64-requires : tie.Need-wrapping-add-u64-requires
 wrapping-add-u64-requires c κs = search needs
 
 returns : tie.Need-returns
-returns c = cc
+returns c = ap (numbered (c .before .args .self)) (c .wrapping-add-u64 .ensures)
 
 pub counted-spec : {M : Type 1} → statement M
 counted-spec = tie.close (tie.spec wrapping-add-u64-requires returns)

@@ -1,14 +1,21 @@
 -- `script::runner::Machine::new` meets its contract. Assumes nothing.
+use mathlib.Core.Path.{ap}
+use mathlib.Core.Bool.{Bool, false}
+use Rattle.scenes.specs.declared.ScenesState.{ScenesState}
 use Rattle.script.specs.declared.runner.Machine.{Machine}
 use borrow.Author.Needs.{needs}
 use Rattle.script.proofs.runner.Machine.new.Statement.{statement}
 use Rattle.script.proofs.runner.Machine.new.Tie as tie
 
+-- before the first line, with the head of a table
+abbrev started : Bool → ScenesState → Machine
+started trace state = record { state = state; present = false; trace = trace; lines = 0 }
+
 new-requires : tie.Need-new-requires
 new-requires c κs = search needs
 
 returns : tie.Need-returns
-returns c = cc
+returns c = ap (started (c .before .args .trace)) (c .new .ensures)
 
 pub new-spec : {M : Type 1} → statement M
 new-spec = tie.close (tie.spec new-requires returns)

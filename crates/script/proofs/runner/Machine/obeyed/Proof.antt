@@ -15,7 +15,7 @@ same-length : tie.Need-same-length
 same-length c = search needs
 
 returns : tie.Need-returns
-returns c = ended (c .before .before .before .before .before .before .before .before .before .before .before .before .before .args .self) _ _ _ _ _ _ _ _ _ _ _ (c .before .before .sized .ensures) ∙ obeys-size _ _ _ _ (c .before .before .before .before .before .if1 .taken)
+returns c = ended (c .before .before .before .before .before .before .before .before .before .before .before .before .before .args .self) _ _ _ _ _ _ _ _ _ _ _ _ (c .before .before .sized .ensures) ∙ obeys-size _ _ _ _ (c .before .before .before .before .before .if1 .taken)
 
 dumped-requires : tie.Need-dumped-requires
 dumped-requires c κs = search needs
@@ -36,7 +36,7 @@ same-length-6 : tie.Need-same-length-6
 same-length-6 c = search needs
 
 returns-2 : tie.Need-returns-2
-returns-2 c = ended (c .before .before .before .before .before .before .before .before .before .before .before .before .before .before .before .before .before .before .args .self) _ _ _ _ _ _ _ _ _ _ _ (c .before .before .dumped .ensures) ∙ obeys-table _ _ _ _ (c .before .before .before .before .before .before .before .before .before .before .if1 .left) (c .before .before .before .before .before .before .before .before .before .if2 .taken) (c .before .before .before .before .before .before .before .before .if3 .taken)
+returns-2 c = ended (c .before .before .before .before .before .before .before .before .before .before .before .before .before .before .before .before .before .before .args .self) _ _ _ _ _ _ _ _ _ _ _ _ (c .before .before .dumped .ensures) ∙ obeys-table _ _ _ _ (c .before .before .before .before .before .before .before .before .before .before .if1 .left) (c .before .before .before .before .before .before .before .before .before .if2 .taken) (c .before .before .before .before .before .before .before .before .if3 .taken)
 
 called-requires : tie.Need-called-requires
 called-requires c κs = search needs
@@ -69,7 +69,7 @@ same-length-13 : tie.Need-same-length-13
 same-length-13 c = search needs
 
 returns-4 : tie.Need-returns-4
-returns-4 c = ended (c .before .before .before .before .before .before .before .before .before .before .before .before .before .args .self) _ _ _ _ _ _ _ _ _ _ _ (c .before .before .wrong .ensures) ∙ obeys-none _ _ _ _ (c .before .before .before .before .before .if1 .left) (c .before .before .before .before .if2 .left)
+returns-4 c = ended (c .before .before .before .before .before .before .before .before .before .before .before .before .before .args .self) _ _ _ _ _ _ _ _ _ _ _ _ (c .before .before .wrong .ensures) ∙ obeys-none _ _ _ _ (c .before .before .before .before .before .if1 .left) (c .before .before .before .before .if2 .left)
 
 pub obeyed-spec : {M : Type 1} → statement M
 obeyed-spec =

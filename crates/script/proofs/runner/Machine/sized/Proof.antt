@@ -1,6 +1,4 @@
 -- `script::runner::Machine::sized` meets its contract. Assumes nothing.
-use Rattle.script.specs.declared.runner.Machine.{Machine}
-use Rattle.script.specs.Running.{sized}
 use borrow.Author.Needs.{needs}
 use Rattle.script.proofs.runner.Machine.sized.Statement.{statement}
 use Rattle.script.proofs.runner.Machine.sized.Tie as tie
