@@ -1,4 +1,4 @@
--- The notice on record structs answers 0 or 6, and never with a save mark. Assumes nothing.
+-- The notice on record structs answers 0 or 6, never with a save mark, and 6 with nothing changed. Assumes nothing.
 use Prim.Native.Nat.{ℕ}
 use mathlib.Core.Path.{_≡_, refl}
 use mathlib.Core.Logic.{_⊎_, inl, inr}
@@ -22,3 +22,7 @@ module _ (e : ℕ) (s : ScenesState) (rs : List CurrentScene) where
   pub notice-unsaved : noticeRecords e s rs .outcome .save ≡ false
   unfolding noticeRecords noticeAll
   notice-unsaved = elim (headSound s (length rs) && fabricsSound rs (s .recorded)) as (λ b. answered b .outcome .save ≡ false) [ true ↦ refl | false ↦ refl ]
+
+  pub notice-refused : (noticeRecords e s rs .outcome .status ≡ success → ⊥) → noticeRecords e s rs ≡ answerOf (record { status = unsound; save = false; state = s }) rs
+  unfolding noticeRecords noticeAll
+  notice-refused = elim (headSound s (length rs) && fabricsSound rs (s .recorded)) as (λ b. (answered b .outcome .status ≡ success → ⊥) → answered b ≡ answered false) [ true ↦ λ h. absurd (h refl) | false ↦ λ _. refl ]

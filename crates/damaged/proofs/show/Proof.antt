@@ -1,6 +1,5 @@
 -- `damaged::show` is safe and ends. Assumes nothing.
 use mathlib.Core.Path.{_∙_}
-use native.Mathlib.Omega.{arith}
 use borrow.Author.Needs.{needs}
 use Rattle.damaged.proofs.show.Statement.{statement}
 use Rattle.damaged.proofs.show.Tie as tie
