@@ -16,13 +16,13 @@ use Rattle.requests.specs.declared.CopyRequest.{CopyRequest}
 use Rattle.requests.specs.Requests.{orNext, firstRefusal, wholeGroup, refuseIf, sceneGate, copiedGate, memberGate, lookupGate, copyGate}
 use Rattle.requests.proofs.Laws.{next-pass, next-refuse}
 use Rattle.scenes.proofs.Computing.{soundness, computing}
-use Rattle.scenes.specs.Table.{Table, emptyTable}
-use Rattle.scenes.specs.Sound.{sound}
-use Rattle.scenes.specs.Capacity.{roomFor, remaining}
-use Rattle.scenes.specs.Change.{findScene}
-use Rattle.scenes.specs.Answer.{refused, refusalOf, guarded}
-use Rattle.scenes.specs.Commands.{removeFound, removeScene}
-use Rattle.scenes.specs.Copy.{copyScenesInner, copyScene}
+use Rattle.state.specs.Table.{Table, emptyTable}
+use Rattle.state.specs.Sound.{sound}
+use Rattle.state.specs.Capacity.{roomFor, remaining}
+use Rattle.state.specs.Change.{findScene}
+use Rattle.state.specs.Answer.{refused, refusalOf, guarded}
+use Rattle.commands.specs.Commands.{removeFound, removeScene}
+use Rattle.copies.specs.Copy.{copyScenesInner, copyScene}
 use Rattle.examples.specs.Rows.{Row, Holds, EveryRow, rows, Naming, byAdd, byView, byRemove, byStore, byRecall, byLookup, bySource, byTarget, named, plain, passes, passing, reserved, capacity, longest, tooLong, noCopy, addWorks, midway, removed, versions, standing, outcome, sceneIn, abc, copyOf, oneOfThree, Copying, request}
 
 -- ---- the rows of one case

@@ -13,14 +13,14 @@ use Rattle.requests.specs.declared.Membership.{Membership}
 use Rattle.requests.specs.declared.Membership.the-variants.{Yes}
 use Rattle.requests.specs.declared.CopyRequest.{CopyRequest}
 use Rattle.requests.specs.Requests.{copyGate}
-use Rattle.scenes.specs.declared.Applied.{Applied}
-use Rattle.scenes.specs.declared.Transition.{Transition}
-use Rattle.scenes.specs.Table.{Table, newState, emptyTable, entriesIn, withEntryCount}
-use Rattle.scenes.specs.Capacity.{remaining}
-use Rattle.scenes.specs.Answer.{Result}
-use Rattle.scenes.specs.Commands.{addScene, storeScene, removeScene, recallScene}
-use Rattle.scenes.specs.Copy.{copyScene}
-use Rattle.scenes.specs.Reads.{viewScene, recallLookup}
+use Rattle.commands.specs.declared.Applied.{Applied}
+use Rattle.reads.specs.declared.Transition.{Transition}
+use Rattle.state.specs.Table.{Table, newState, emptyTable, entriesIn, withEntryCount}
+use Rattle.state.specs.Capacity.{remaining}
+use Rattle.state.specs.Answer.{Result}
+use Rattle.commands.specs.Commands.{addScene, storeScene, removeScene, recallScene}
+use Rattle.copies.specs.Copy.{copyScene}
+use Rattle.reads.specs.Reads.{viewScene, recallLookup}
 
 -- a row: what the definitions compute is what the paper says, in every case that the row speaks of
 pub record Row : Type 1 where

@@ -11,12 +11,12 @@ use Rattle.words.specs.Constants.{maxScenes, maxFields, stride}
 use Rattle.words.proofs.Tests.{and-left, and-right}
 use Rattle.slots.specs.Slots.{part, lengthAt, fieldsAt}
 use Rattle.slots.proofs.Laws.{length-part}
-use Rattle.scenes.specs.Table.{Table}
-use Rattle.scenes.specs.Sound.{sound}
-use Rattle.scenes.specs.Reads.{fieldBytes}
+use Rattle.state.specs.Table.{Table}
+use Rattle.state.specs.Sound.{sound}
+use Rattle.reads.specs.Reads.{fieldBytes}
 use Rattle.host.specs.declared.FieldBytes.{FieldBytes}
 use Rattle.host.specs.Fields.{fieldPlace}
-use Rattle.scenes.proofs.Laws.{InBounds, sound-bounds, sound-length}
+use Rattle.state.proofs.Laws.{InBounds, sound-bounds, sound-length}
 
 no-bytes : (l : List ℕ) → length l ≡ 0 → l ≡ []
 no-bytes l e = drop-of-length-le l {i = 0} (omega arith)

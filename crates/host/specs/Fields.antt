@@ -5,8 +5,8 @@ use mathlib.Core.Bool.{cond}
 use lib.Dec.{eqb}
 use lib.ListN.{length}
 use Rattle.words.specs.Constants.{stride}
-use Rattle.scenes.specs.Table.{Table}
-use Rattle.scenes.specs.Reads.{fieldBytes}
+use Rattle.state.specs.Table.{Table}
+use Rattle.reads.specs.Reads.{fieldBytes}
 use Rattle.host.specs.declared.FieldBytes.{FieldBytes}
 
 -- behind the entry's length byte, as many as `fieldBytes` has; 0 and 0 where it has none

@@ -3,10 +3,10 @@
 use Prim.Native.Nat.{ℕ}
 use mathlib.Core.Bool.{Bool, true, false, cond}
 use lib.Dec.{eqb}
-use Rattle.scenes.specs.declared.Applied.{Applied}
-use Rattle.scenes.specs.declared.Applied.the-variants as applied
-use Rattle.scenes.specs.declared.Transition.{Transition}
-use Rattle.scenes.specs.declared.Transition.the-variants.{Stored, Given}
+use Rattle.commands.specs.declared.Applied.{Applied}
+use Rattle.commands.specs.declared.Applied.the-variants as applied
+use Rattle.reads.specs.declared.Transition.{Transition}
+use Rattle.reads.specs.declared.Transition.the-variants.{Stored, Given}
 
 -- 1 is yes; at any other number the host could not apply the scene
 unfoldable pub appliedOf : ℕ → Applied

@@ -1,25 +1,26 @@
 // The calls of the scene table for hosts in C or Rust. Each is one call of the table; numbers stand for enums, and no reference
 // comes back. A lent slice is a pointer and a count of elements.
+use commands::Applied;
+use reads::InfoRead;
+use reads::ListRead;
+use reads::SceneRead;
+use reads::Transition;
 use requests::CopyRequest;
 use requests::Membership;
-use scenes::Applied;
-use scenes::InfoRead;
-use scenes::ListRead;
-use scenes::Outcome;
-use scenes::SceneRead;
-use scenes::ScenesState;
-use scenes::Transition;
+use scenes::ScenesHandler;
+use state::Outcome;
+use state::ScenesState;
 use words::GroupKey;
 use words::SceneKey;
 use words::Slot;
 ghost use mathlib.Core.Path.{_≡_};
-ghost use Rattle.scenes.specs.Table.{tableOf, newState};
-ghost use Rattle.scenes.specs.Sound.{sound};
-ghost use Rattle.scenes.specs.Answer.{resultOf};
-ghost use Rattle.scenes.specs.Commands.{addScene, storeScene, removeScene, removeAllScenes, recallScene};
-ghost use Rattle.scenes.specs.Copy.{copyScene};
-ghost use Rattle.scenes.specs.Reads.{viewScene, recallLookup, listedOf, getSceneMembership, readFabricSceneInfo};
-ghost use Rattle.scenes.specs.Lifecycle.{scenableAttributeChanged, removeForFabric, factoryReset, startup, failSafe};
+ghost use Rattle.state.specs.Table.{tableOf, newState};
+ghost use Rattle.state.specs.Sound.{sound};
+ghost use Rattle.state.specs.Answer.{resultOf};
+ghost use Rattle.commands.specs.Commands.{addScene, storeScene, removeScene, removeAllScenes, recallScene};
+ghost use Rattle.copies.specs.Copy.{copyScene};
+ghost use Rattle.reads.specs.Reads.{viewScene, recallLookup, listedOf, getSceneMembership, readFabricSceneInfo};
+ghost use Rattle.lifecycle.specs.Lifecycle.{scenableAttributeChanged, removeForFabric, factoryReset, startup, failSafe};
 ghost use Rattle.requests.specs.Requests.{membershipOf};
 ghost use Rattle.host.specs.Numbers.{appliedOf, transitionOf, truthOf};
 ghost use Rattle.host.specs.Fields.{fieldPlace};
@@ -102,7 +103,7 @@ pub extern "C" fn scenes_add(
         let after = tableOf (r .state) (now (keys .exit)) (now (times .exit)) (now (fields .exit)) (now (records .exit)) in
         ⌜ resultOf (r .status) (r .save) after ≡ addScene key time (membershipOf member) (now (pairs .entry)) (now (ext .entry)) before ⌝ }
 {
-    state.add_scene(
+    ScenesHandler { state }.add_scene(
         keys,
         times,
         fields,
@@ -132,7 +133,7 @@ pub extern "C" fn scenes_store(
         let after = tableOf (r .state) (now (keys .exit)) (now (times .exit)) (now (fields .exit)) (now (records .exit)) in
         ⌜ resultOf (r .status) (r .save) after ≡ storeScene key (membershipOf member) (now (captured .entry)) before ⌝ }
 {
-    state.store_scene(
+    ScenesHandler { state }.store_scene(
         keys,
         times,
         fields,
@@ -158,7 +159,7 @@ pub extern "C" fn scenes_view(
         let table = tableOf state (now (keys .entry)) (now (times .entry)) (now (fields .entry)) (now (records .entry)) in
         ⌜ r ≡ viewScene key (membershipOf member) table ⌝ }
 {
-    state.view_scene(
+    ScenesHandler { state }.view_scene(
         keys,
         times,
         fields,
@@ -185,7 +186,7 @@ pub extern "C" fn scenes_recall_lookup(
         let table = tableOf state (now (keys .entry)) (now (times .entry)) (now (fields .entry)) (now (records .entry)) in
         ⌜ r ≡ recallLookup key (membershipOf member) (transitionOf given time) table ⌝ }
 {
-    state.recall_lookup(
+    ScenesHandler { state }.recall_lookup(
         keys,
         times,
         fields,
@@ -213,7 +214,7 @@ pub extern "C" fn scenes_recall(
         let after = tableOf (r .state) (now (keys .entry)) (now (times .entry)) (now (fields .entry)) (now (records .exit)) in
         ⌜ resultOf (r .status) (r .save) after ≡ recallScene key (membershipOf member) (appliedOf applied) before ⌝ }
 {
-    state.recall_scene(
+    ScenesHandler { state }.recall_scene(
         keys,
         times,
         fields,
@@ -240,7 +241,7 @@ pub extern "C" fn scenes_remove(
         let after = tableOf (r .state) (now (keys .exit)) (now (times .exit)) (now (fields .exit)) (now (records .exit)) in
         ⌜ resultOf (r .status) (r .save) after ≡ removeScene key (membershipOf member) before ⌝ }
 {
-    state.remove_scene(
+    ScenesHandler { state }.remove_scene(
         keys,
         times,
         fields,
@@ -266,7 +267,7 @@ pub extern "C" fn scenes_remove_all(
         let after = tableOf (r .state) (now (keys .exit)) (now (times .exit)) (now (fields .exit)) (now (records .exit)) in
         ⌜ resultOf (r .status) (r .save) after ≡ removeAllScenes key (membershipOf member) before ⌝ }
 {
-    state.remove_all_scenes(
+    ScenesHandler { state }.remove_all_scenes(
         keys,
         times,
         fields,
@@ -293,7 +294,7 @@ pub extern "C" fn scenes_copy(
         let after = tableOf (r .state) (now (keys .exit)) (now (times .exit)) (now (fields .exit)) (now (records .exit)) in
         ⌜ resultOf (r .status) (r .save) after ≡ copyScene request (membershipOf source) (membershipOf target) before ⌝ }
 {
-    state.copy_scene(
+    ScenesHandler { state }.copy_scene(
         keys,
         times,
         fields,
@@ -320,7 +321,7 @@ pub extern "C" fn scenes_get_membership(
         let table = tableOf state (now (keys .entry)) (now (times .entry)) (now (fields .entry)) (now (records .entry)) in
         ⌜ listedOf r (now (ids .exit)) ≡ getSceneMembership key (membershipOf member) (now (ids .entry)) table ⌝ }
 {
-    state.get_scene_membership(
+    ScenesHandler { state }.get_scene_membership(
         keys,
         times,
         fields,
@@ -347,7 +348,7 @@ pub extern "C" fn scenes_read_info(
         let table = tableOf state (now (keys .entry)) (now (times .entry)) (now (fields .entry)) (now (records .entry)) in
         ⌜ r ≡ readFabricSceneInfo fabric endpoint (truthOf single) table ⌝ }
 {
-    state.read_fabric_scene_info(
+    ScenesHandler { state }.read_fabric_scene_info(
         keys,
         times,
         fields,
@@ -371,14 +372,14 @@ pub extern "C" fn scenes_field_bytes(
 ) -> FieldBytes
     ensures { λ r. ⌜ r ≡ fieldPlace at (tableOf state (now (keys .entry)) (now (times .entry)) (now (fields .entry)) (now (records .entry))) ⌝ }
 {
-    let len = state.field_bytes(keys, times, fields, records, at).len();
+    let len = ScenesHandler { state }
+        .field_bytes(keys, times, fields, records, at)
+        .len();
     if len == 0 {
         return FieldBytes { offset: 0, len: 0 };
     }
-    FieldBytes {
-        offset: at * Slot::STRIDE + 1,
-        len,
-    }
+    let offset = at * Slot::STRIDE + 1;
+    FieldBytes { offset, len }
 }
 
 // A scenable attribute changed on an endpoint.
@@ -396,7 +397,7 @@ pub extern "C" fn scenes_attribute_changed(
         let after = tableOf (r .state) (now (keys .entry)) (now (times .entry)) (now (fields .entry)) (now (records .exit)) in
         ⌜ resultOf (r .status) (r .save) after ≡ scenableAttributeChanged endpoint before ⌝ }
 {
-    state.scenable_attribute_changed(keys, times, fields, records, endpoint)
+    ScenesHandler { state }.scenable_attribute_changed(keys, times, fields, records, endpoint)
 }
 
 // A fabric left.
@@ -414,7 +415,7 @@ pub extern "C" fn scenes_remove_fabric(
         let after = tableOf (r .state) (now (keys .exit)) (now (times .exit)) (now (fields .exit)) (now (records .exit)) in
         ⌜ resultOf (r .status) (r .save) after ≡ removeForFabric fabric before ⌝ }
 {
-    state.remove_for_fabric(keys, times, fields, records, fabric)
+    ScenesHandler { state }.remove_for_fabric(keys, times, fields, records, fabric)
 }
 
 // A factory reset.
@@ -431,7 +432,7 @@ pub extern "C" fn scenes_factory_reset(
         let after = tableOf (r .state) (now (keys .entry)) (now (times .entry)) (now (fields .entry)) (now (records .entry)) in
         ⌜ resultOf (r .status) (r .save) after ≡ factoryReset before ⌝ }
 {
-    state.factory_reset(keys, times, fields, records)
+    ScenesHandler { state }.factory_reset(keys, times, fields, records)
 }
 
 // A startup without a saved table.
@@ -448,7 +449,7 @@ pub extern "C" fn scenes_startup(
         let after = tableOf (r .state) (now (keys .entry)) (now (times .entry)) (now (fields .entry)) (now (records .entry)) in
         ⌜ resultOf (r .status) (r .save) after ≡ startup before ⌝ }
 {
-    state.startup(keys, times, fields, records)
+    ScenesHandler { state }.startup(keys, times, fields, records)
 }
 
 // The fail-safe was committed.
@@ -465,7 +466,7 @@ pub extern "C" fn scenes_fail_safe_commit(
         let after = tableOf (r .state) (now (keys .entry)) (now (times .entry)) (now (fields .entry)) (now (records .entry)) in
         ⌜ resultOf (r .status) (r .save) after ≡ failSafe before ⌝ }
 {
-    state.fail_safe_commit(keys, times, fields, records)
+    ScenesHandler { state }.fail_safe_commit(keys, times, fields, records)
 }
 
 // The fail-safe expired.
@@ -482,5 +483,5 @@ pub extern "C" fn scenes_fail_safe_expiry(
         let after = tableOf (r .state) (now (keys .entry)) (now (times .entry)) (now (fields .entry)) (now (records .entry)) in
         ⌜ resultOf (r .status) (r .save) after ≡ failSafe before ⌝ }
 {
-    state.fail_safe_expiry(keys, times, fields, records)
+    ScenesHandler { state }.fail_safe_expiry(keys, times, fields, records)
 }

@@ -26,12 +26,12 @@ use denote.Triple.Statement.{Contract}
 use denote.Triple.Spec.{tripleOf}
 use denote.Triple.Clauses.{ensured, lasts}
 use denote.Triple.Walked.{says}
-use Rattle.scenes.specs.declared.ScenesState.{ScenesState}
-use Rattle.scenes.specs.declared.Outcome.{Outcome}
-use Rattle.scenes.proofs.ScenesState as S
-use Rattle.scenes.proofs.ScenesState.Laws as S′
-use Rattle.scenes.proofs.Outcome as O
-use Rattle.scenes.proofs.Outcome.Laws as O′
+use Rattle.state.specs.declared.ScenesState.{ScenesState}
+use Rattle.state.specs.declared.Outcome.{Outcome}
+use Rattle.state.proofs.ScenesState as S
+use Rattle.state.proofs.ScenesState.Laws as S′
+use Rattle.state.proofs.Outcome as O
+use Rattle.state.proofs.Outcome.Laws as O′
 use Rattle.notices.specs.declared.CurrentScene.{CurrentScene}
 use Rattle.notices.specs.declared.Pass.{Pass}
 use Rattle.notices.specs.declared.Visited.{Visited}

@@ -6,7 +6,7 @@ use mathlib.Core.Bool.{Bool, true, false, cond, _&&_}
 use mathlib.Core.List.{List}
 use lib.ListN.{length}
 use Rattle.words.specs.Constants.{success, unsound}
-use Rattle.scenes.specs.declared.ScenesState.{ScenesState}
+use Rattle.state.specs.declared.ScenesState.{ScenesState}
 use Rattle.notices.specs.declared.CurrentScene.{CurrentScene}
 use Rattle.notices.specs.Notice.{headSound, fabricsSound, Answer, answerOf, noticeAll, noticeRecords}
 

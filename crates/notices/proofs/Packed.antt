@@ -18,12 +18,12 @@ use Rattle.slots.specs.Slots.{keysSound, lengthsSound}
 use Rattle.records.specs.declared.Scope.the-variants.{Endpoint}
 use Rattle.records.specs.Records as Words
 use Rattle.records.proofs.View.{sound-at}
-use Rattle.scenes.specs.Table.{Table, withCurrent}
-use Rattle.scenes.specs.Sound.{inBounds, sound}
-use Rattle.scenes.specs.Answer.{resultOf, refused, refusalOf, guarded}
-use Rattle.scenes.specs.Current.{invalidateCurrent}
-use Rattle.scenes.specs.Lifecycle.{scenableAttributeChanged}
-use Rattle.scenes.proofs.Laws.{sound-bounds}
+use Rattle.state.specs.Table.{Table, withCurrent}
+use Rattle.state.specs.Sound.{inBounds, sound}
+use Rattle.state.specs.Answer.{resultOf, refused, refusalOf, guarded}
+use Rattle.state.specs.Current.{invalidateCurrent}
+use Rattle.lifecycle.specs.Lifecycle.{scenableAttributeChanged}
+use Rattle.state.proofs.Laws.{sound-bounds}
 use Rattle.notices.specs.declared.CurrentScene.{CurrentScene}
 use Rattle.notices.specs.Notice.{marked, hits, noticed, recordAt, headSound, fabricsSound, answerOf, noticeAll, noticeRecords}
 use Rattle.notices.specs.Packed.{keyIn, pack, unpack, Typed, entriesSound, Lends, packed, SameOutcome, SameRefusal, Unpacks}

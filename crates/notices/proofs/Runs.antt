@@ -16,8 +16,8 @@ use Rattle.words.specs.Constants.{success, unsound}
 use Rattle.words.specs.Below.{anyBelow, everyBelow}
 use Rattle.words.proofs.Below.{every-more, every-fails}
 use Rattle.words.proofs.Tests.{all-head, all-tail, and-false}
-use Rattle.scenes.specs.declared.ScenesState.{ScenesState}
-use Rattle.scenes.specs.Table.{bumpIf}
+use Rattle.state.specs.declared.ScenesState.{ScenesState}
+use Rattle.state.specs.Table.{bumpIf}
 use Rattle.notices.specs.declared.CurrentScene.{CurrentScene}
 use Rattle.notices.specs.declared.Pass.{Pass}
 use Rattle.notices.specs.Notice.{hits, noticed, recordAt, headSound, fabricsSound, Answer, answerOf, noticeAll, noticeRecords}

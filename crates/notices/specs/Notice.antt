@@ -8,9 +8,9 @@ use lib.ListN.{length, getD, take, drop}
 use Rattle.words.specs.Constants.{success, unsound, maxScenes}
 use Rattle.words.specs.Conditions.{allOf}
 use Rattle.words.specs.Below.{everyBelow, anyBelow}
-use Rattle.scenes.specs.declared.ScenesState.{ScenesState}
-use Rattle.scenes.specs.declared.Outcome.{Outcome}
-use Rattle.scenes.specs.Table.{bumpIf}
+use Rattle.state.specs.declared.ScenesState.{ScenesState}
+use Rattle.state.specs.declared.Outcome.{Outcome}
+use Rattle.state.specs.Table.{bumpIf}
 use Rattle.notices.specs.declared.CurrentScene.{CurrentScene}
 
 -- ---- one record

@@ -11,10 +11,10 @@ use Rattle.words.specs.Conditions.{allOf}
 use Rattle.words.specs.Words.{wordOf, fabricOf, endpointOf, groupOf, sceneOf, keyOfRecord, isValid, validRecord}
 use Rattle.words.specs.declared.SceneKey.{SceneKey}
 use Rattle.slots.specs.Slots.{Slots, keysSound, lengthsSound}
-use Rattle.scenes.specs.Table.{Table}
-use Rattle.scenes.specs.Sound.{sound}
-use Rattle.scenes.specs.Answer.{Result, resultOf}
-use Rattle.scenes.specs.Lifecycle.{scenableAttributeChanged}
+use Rattle.state.specs.Table.{Table}
+use Rattle.state.specs.Sound.{sound}
+use Rattle.state.specs.Answer.{Result, resultOf}
+use Rattle.lifecycle.specs.Lifecycle.{scenableAttributeChanged}
 use Rattle.notices.specs.declared.CurrentScene.{CurrentScene}
 use Rattle.notices.specs.Notice.{recordAt, headSound, Answer, noticeRecords}
 

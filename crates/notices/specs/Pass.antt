@@ -3,9 +3,9 @@ use Prim.Native.Nat.{ℕ, _+_}
 use mathlib.Core.Bool.{Bool, true, false, cond, _||_}
 use lib.Dec.{eqb, ltb}
 use Rattle.words.specs.Constants.{success, unsound}
-use Rattle.scenes.specs.declared.ScenesState.{ScenesState}
-use Rattle.scenes.specs.declared.Outcome.{Outcome}
-use Rattle.scenes.specs.Table.{bumpIf}
+use Rattle.state.specs.declared.ScenesState.{ScenesState}
+use Rattle.state.specs.declared.Outcome.{Outcome}
+use Rattle.state.specs.Table.{bumpIf}
 use Rattle.notices.specs.declared.CurrentScene.{CurrentScene}
 use Rattle.notices.specs.declared.Pass.{Pass}
 use Rattle.notices.specs.declared.Visited.{Visited}

@@ -1,7 +1,7 @@
 // The attribute notice over a lent slice of record structs. `CurrentScene::notice` is the step on one record, `Pass::visit` what a
 // pass does at it; `notice_records` only walks. It has the outcome of the notice on the record words.
-use scenes::Outcome;
-use scenes::ScenesState;
+use state::Outcome;
+use state::ScenesState;
 use words::Fault;
 use words::Limits;
 use words::Status;

@@ -18,11 +18,11 @@ use Rattle.words.specs.Constants.{unsound, stride}
 use Rattle.words.proofs.Below.{every-intro}
 use Rattle.words.proofs.Tests.{all-head, all-tail, all-more, all-none}
 use Rattle.slots.specs.Slots.{keySound, keysSound, lengthsSound}
-use Rattle.scenes.specs.declared.ScenesState.{ScenesState}
-use Rattle.scenes.specs.declared.Outcome.{Outcome}
-use Rattle.scenes.specs.Table.{Table}
-use Rattle.scenes.specs.Answer.{Result, resultOf}
-use Rattle.scenes.specs.Lifecycle.{scenableAttributeChanged}
+use Rattle.state.specs.declared.ScenesState.{ScenesState}
+use Rattle.state.specs.declared.Outcome.{Outcome}
+use Rattle.state.specs.Table.{Table}
+use Rattle.state.specs.Answer.{Result, resultOf}
+use Rattle.lifecycle.specs.Lifecycle.{scenableAttributeChanged}
 use Rattle.notices.specs.declared.CurrentScene.{CurrentScene}
 use Rattle.notices.specs.Notice.{noticed, recordAt, headSound, fabricsSound, Answer, answerOf, noticeAll, noticeRecords}
 use Rattle.notices.specs.Packed.{pack, Typed, entriesSound, Lends, packed}

@@ -8,7 +8,7 @@ use lib.Dec.{eqb}
 use lib.ListN.{length, getD}
 use borrow.Author.Tests.{eqb-true, eq-eqb}
 use Rattle.words.proofs.Tests.{and-left, and-right, and-intro}
-use Rattle.scenes.specs.declared.Outcome.{Outcome}
+use Rattle.state.specs.declared.Outcome.{Outcome}
 use Rattle.notices.specs.declared.CurrentScene.{CurrentScene}
 use Rattle.notices.specs.Notice.{recordAt}
 use Rattle.notices.specs.Packed.{pack}

@@ -2,8 +2,8 @@
 use Prim.Native.Nat.{ℕ, _^_}
 use mathlib.Core.List.{List}
 use lib.ListN.{replicate}
-use Rattle.scenes.specs.declared.ScenesState.{ScenesState}
-use Rattle.scenes.specs.Table.{Table, tableOf}
+use Rattle.state.specs.declared.ScenesState.{ScenesState}
+use Rattle.state.specs.Table.{Table, tableOf}
 
 -- a head and record words, with eight sound entries
 abbrev pub tableFor : ScenesState → List ℕ → Table

@@ -2,8 +2,9 @@
 // the same outcome, which is proved for every head, record and endpoint; what is written is what the structs' pass answered.
 use libc::STDOUT_FILENO;
 use notices::CurrentScene;
-use scenes::Outcome;
-use scenes::ScenesState;
+use scenes::ScenesHandler;
+use state::Outcome;
+use state::ScenesState;
 use words::KeyWord;
 use words::SceneKey;
 ghost use mathlib.Core.Path.{_≡_};
@@ -11,8 +12,8 @@ ghost use mathlib.Core.Bool.{true};
 ghost use mathlib.Core.List.{map};
 ghost use Rattle.notices.specs.Notice.{answerOf, noticeRecords};
 ghost use Rattle.notices.specs.Packed.{pack};
-ghost use Rattle.scenes.specs.Answer.{resultOf};
-ghost use Rattle.scenes.specs.Lifecycle.{scenableAttributeChanged};
+ghost use Rattle.state.specs.Answer.{resultOf};
+ghost use Rattle.lifecycle.specs.Lifecycle.{scenableAttributeChanged};
 ghost use Rattle.notices_run.specs.Rows.{tableFor};
 
 // What the pass over structs left.
@@ -74,7 +75,13 @@ fn on_words(state: ScenesState, words: [u64; 4], endpoint: u16) -> PassedWords
     let times = [0u32; 8];
     let fields = [0u8; 1032];
     let mut after = words;
-    let outcome = state.scenable_attribute_changed(&keys, &times, &fields, &mut after, endpoint);
+    let outcome = ScenesHandler { state }.scenable_attribute_changed(
+        &keys,
+        &times,
+        &fields,
+        &mut after,
+        endpoint,
+    );
     PassedWords {
         outcome,
         words: after,

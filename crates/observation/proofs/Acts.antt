@@ -13,12 +13,12 @@ use Rattle.words.specs.declared.SceneKey.{SceneKey}
 use Rattle.slots.specs.Slots.{SceneEntry, keySound}
 use Rattle.records.specs.declared.Scope.{Scope}
 use Rattle.records.specs.Records.{recordSound}
-use Rattle.scenes.specs.Table.{Table, entriesIn, recordsIn, withEntries, withCurrent}
-use Rattle.scenes.specs.Sound.{sound}
-use Rattle.scenes.specs.Current.{rememberCurrent, invalidateCurrent}
-use Rattle.scenes.specs.Change.{findScene, putAt, append}
-use Rattle.scenes.specs.Answer.{refusalOf, guarded, resultOf}
-use Rattle.scenes.proofs.Guard.{when-refused, when-passed, refusal-sound}
+use Rattle.state.specs.Table.{Table, entriesIn, recordsIn, withEntries, withCurrent}
+use Rattle.state.specs.Sound.{sound}
+use Rattle.state.specs.Current.{rememberCurrent, invalidateCurrent}
+use Rattle.state.specs.Change.{findScene, putAt, append}
+use Rattle.state.specs.Answer.{refusalOf, guarded, resultOf}
+use Rattle.state.proofs.Guard.{when-refused, when-passed, refusal-sound}
 use Rattle.observation.specs.Calls.{Out, ofResult}
 use Rattle.observation.specs.Equivalence.{ofFabric}
 use Rattle.observation.proofs.Lists.{has, put}

@@ -16,12 +16,12 @@ use Rattle.slots.specs.Slots.{SceneEntry, entryAt, firstKey, keySound}
 use Rattle.records.specs.declared.Scope.the-variants.{Scene, Group}
 use Rattle.records.proofs.View.{sound-valid}
 use Rattle.requests.specs.declared.Membership.{Membership}
-use Rattle.scenes.specs.Table.{Table, entriesIn, withEntries, withCurrent}
-use Rattle.scenes.specs.Sound.{sound}
-use Rattle.scenes.specs.Current.{invalidateCurrent}
-use Rattle.scenes.specs.Change.{findScene, append, Upserted, upsertedOf, written, upsertAt, upsert, swapRemove, retainOutside}
-use Rattle.scenes.specs.Answer.{Result, resultOf, refused}
-use Rattle.scenes.specs.Commands.{saved, addScene, priorTime, stored, storeCaptured, storeScene, removeFound, removeScene, removedAll, removeAllScenes}
+use Rattle.state.specs.Table.{Table, entriesIn, withEntries, withCurrent}
+use Rattle.state.specs.Sound.{sound}
+use Rattle.state.specs.Current.{invalidateCurrent}
+use Rattle.state.specs.Change.{saved, findScene, append, Upserted, upsertedOf, written, upsertAt, upsert, swapRemove, retainOutside}
+use Rattle.state.specs.Answer.{Result, resultOf, refused}
+use Rattle.commands.specs.Commands.{addScene, priorTime, stored, storeCaptured, storeScene, removeFound, removeScene, removedAll, removeAllScenes}
 use Rattle.observation.specs.Lists.{count, find, keep}
 use Rattle.observation.specs.Calls.{add, store, remove, removeAll, command, step, does, ofResult, CommandInRange, sceneKey, groupKey}
 use Rattle.observation.specs.Equivalence.{keyIs}

@@ -21,16 +21,16 @@ use Rattle.records.specs.declared.Scope.{Scope}
 use Rattle.requests.specs.declared.Membership.{Membership}
 use Rattle.requests.specs.declared.CopyRequest.{CopyRequest}
 use Rattle.requests.specs.Requests.{wholeGroup}
-use Rattle.scenes.specs.Table.{Table, Entries, entriesIn, withCurrent}
-use Rattle.scenes.specs.Sound.{sound}
-use Rattle.scenes.specs.Capacity.{roomFor}
-use Rattle.scenes.specs.Current.{invalidateCurrent}
-use Rattle.scenes.specs.Change.{findScene}
-use Rattle.scenes.specs.Copy as scenes
-use Rattle.scenes.specs.Copy.{Copied, copiedOf, copyTo, copyEntry, copyFound, copySingle, copyWalk, copySources, targetScope, copyScenesInner, copyScene}
-use Rattle.scenes.specs.Answer.{resultOf, refused}
-use Rattle.scenes.proofs.Laws.{found-under}
-use Rattle.scenes.proofs.CopyLaws.{room-free}
+use Rattle.state.specs.Table.{Table, Entries, entriesIn, withCurrent}
+use Rattle.state.specs.Sound.{sound}
+use Rattle.state.specs.Capacity.{roomFor}
+use Rattle.state.specs.Current.{invalidateCurrent}
+use Rattle.state.specs.Change.{findScene}
+use Rattle.copies.specs.Copy as scenes
+use Rattle.copies.specs.Copy.{Copied, copiedOf, copyTo, copyEntry, copyFound, copySingle, copyWalk, copySources, targetScope, copyScenesInner, copyScene}
+use Rattle.state.specs.Answer.{resultOf, refused}
+use Rattle.state.proofs.Laws.{found-under}
+use Rattle.copies.proofs.Laws.{room-free}
 use Rattle.observation.specs.Lists.{find, keep}
 use Rattle.observation.specs.Calls.{copy, command, step, does, ofResult, CommandInRange, sceneKey, groupKey, copyRequest}
 use Rattle.observation.specs.Equivalence.{keyIs}

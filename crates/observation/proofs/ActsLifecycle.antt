@@ -16,11 +16,11 @@ use Rattle.records.specs.declared.Scope.the-variants.{Endpoint}
 use Rattle.records.specs.Records.{moved}
 use Rattle.records.proofs.View.{length-moved, others-le}
 use Rattle.requests.specs.Requests.{fabricGate}
-use Rattle.scenes.specs.Table.{Table, entriesIn, recordsIn, withEntries, withRecordCount, bumpIf}
-use Rattle.scenes.specs.Sound.{sound}
-use Rattle.scenes.specs.Change.{retainOutside}
-use Rattle.scenes.specs.Answer.{refused}
-use Rattle.scenes.specs.Lifecycle.{scenableAttributeChanged, removedFabric, removeForFabric, factoryReset, startup, failSafe}
+use Rattle.state.specs.Table.{Table, entriesIn, recordsIn, withEntries, withRecordCount, bumpIf}
+use Rattle.state.specs.Sound.{sound}
+use Rattle.state.specs.Change.{retainOutside}
+use Rattle.state.specs.Answer.{refused}
+use Rattle.lifecycle.specs.Lifecycle.{scenableAttributeChanged, removedFabric, removeForFabric, factoryReset, startup, failSafe}
 use Rattle.observation.specs.Lists.{count, keep}
 use Rattle.observation.specs.Calls.{notice, removal, reset, start, failSafeEvent, step, ofResult}
 use Rattle.observation.specs.Equivalence.{mine, ofFabric}

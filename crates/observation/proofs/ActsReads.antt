@@ -20,18 +20,18 @@ use Rattle.slots.specs.Slots.{SceneEntry, entryAt, fieldsAt, countKeys, scenesI
 use Rattle.records.specs.Records.{recordSound, firstOwned}
 use Rattle.records.proofs.View.{sound-valid}
 use Rattle.requests.specs.declared.Membership.{Membership}
-use Rattle.scenes.specs.declared.Applied.{Applied}
-use Rattle.scenes.specs.declared.Applied.the-variants.{Yes, Failed}
-use Rattle.scenes.specs.declared.Transition.{Transition}
-use Rattle.scenes.specs.declared.Transition.the-variants.{Stored}
-use Rattle.scenes.specs.Table.{Table, entriesIn}
-use Rattle.scenes.specs.Sound.{sound}
-use Rattle.scenes.specs.Capacity.{roomFor, remaining}
-use Rattle.scenes.specs.Change.{findScene}
-use Rattle.scenes.specs.Answer.{refused}
-use Rattle.scenes.specs.Commands.{recallFound, recallScene}
-use Rattle.scenes.specs.Reads.{effectiveTime, unread, readAt, viewScene, recallLookup, fieldBytes, sceneIds, listedOf, unlisted, listIds, getSceneMembership, noRow, infoRow, readFabricSceneInfo}
-use Rattle.scenes.proofs.Laws.{found-under}
+use Rattle.commands.specs.declared.Applied.{Applied}
+use Rattle.commands.specs.declared.Applied.the-variants.{Yes, Failed}
+use Rattle.reads.specs.declared.Transition.{Transition}
+use Rattle.reads.specs.declared.Transition.the-variants.{Stored}
+use Rattle.state.specs.Table.{Table, entriesIn}
+use Rattle.state.specs.Sound.{sound}
+use Rattle.state.specs.Capacity.{roomFor, remaining}
+use Rattle.state.specs.Change.{findScene}
+use Rattle.state.specs.Answer.{refused}
+use Rattle.commands.specs.Commands.{recallFound, recallScene}
+use Rattle.reads.specs.Reads.{effectiveTime, unread, readAt, viewScene, recallLookup, fieldBytes, sceneIds, listedOf, unlisted, listIds, getSceneMembership, noRow, infoRow, readFabricSceneInfo}
+use Rattle.state.proofs.Laws.{found-under}
 use Rattle.observation.specs.Lists.{find, keep}
 use Rattle.observation.specs.Calls.{view, recall, membership, info, command, step, does, withState, ofView, ofRecall, ofList, ofInfo, CommandInRange, sceneKey, groupKey}
 use Rattle.observation.specs.Equivalence.{keyIs, mine}

@@ -15,8 +15,8 @@ use Rattle.words.specs.declared.SceneKey.{SceneKey}
 use Rattle.records.specs.declared.Scope.the-variants.{Scene, Endpoint}
 use Rattle.records.specs.Records.{inScope, cleared}
 use Rattle.requests.specs.declared.Membership.the-variants.{Yes}
-use Rattle.scenes.specs.Table.{Table, entriesIn}
-use Rattle.scenes.specs.Sound.{sound}
+use Rattle.state.specs.Table.{Table, entriesIn}
+use Rattle.state.specs.Sound.{sound}
 use Rattle.requests.specs.Requests.{reserved}
 use Rattle.observation.specs.Lists.{bit, find, keep}
 use Rattle.observation.specs.Calls.{Command, add, view, store, info, command, notice, Answer, answer, next, sceneKey, InRange}

@@ -9,8 +9,8 @@ use lib.ListN.{length}
 use borrow.Author.Tests.{eqb-true, eqb-false}
 use Rattle.words.specs.Constants.{success, listTooLong, maxShown}
 use Rattle.requests.specs.declared.Membership.{Membership}
-use Rattle.scenes.specs.Table.{Table}
-use Rattle.scenes.specs.Sound.{sound}
+use Rattle.state.specs.Table.{Table}
+use Rattle.state.specs.Sound.{sound}
 use Rattle.observation.specs.Calls.{membership, command, answer, CommandInRange}
 use Rattle.observation.proofs.Changes.{viewOf, roomIn}
 use Rattle.observation.proofs.Effects.{Seen, sees, gateOf, refuse, idsIn}

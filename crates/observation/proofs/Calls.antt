@@ -6,12 +6,12 @@ use native.Mathlib.Omega.{arith}
 use lib.Dec.{eqb}
 use borrow.Author.Tests.{eqb-true, eqb-false, ne-eqb}
 use Rattle.words.specs.Constants.{success}
-use Rattle.scenes.specs.Table.{Table}
-use Rattle.scenes.specs.Sound.{sound}
-use Rattle.scenes.specs.Answer.{refused}
-use Rattle.scenes.specs.Commands.{addScene, storeScene, removeScene, removeAllScenes, recallScene}
-use Rattle.scenes.specs.Copy.{copyScene}
-use Rattle.scenes.specs.Reads.{unread, viewScene, recallLookup, unlisted, getSceneMembership, noRow, readFabricSceneInfo}
+use Rattle.state.specs.Table.{Table}
+use Rattle.state.specs.Sound.{sound}
+use Rattle.state.specs.Answer.{refused}
+use Rattle.commands.specs.Commands.{addScene, storeScene, removeScene, removeAllScenes, recallScene}
+use Rattle.copies.specs.Copy.{copyScene}
+use Rattle.reads.specs.Reads.{unread, viewScene, recallLookup, unlisted, getSceneMembership, noRow, readFabricSceneInfo}
 use Rattle.observation.specs.Calls.{Command, add, view, remove, removeAll, store, recall, copy, membership, info, Call, command, notice, removal, reset, start, failSafeEvent, step, does, next, withState, ofResult, ofView, ofRecall, ofList, ofInfo, sceneKey, CommandInRange, InRange}
 use Rattle.observation.proofs.Changes.{viewOf}
 use Rattle.observation.proofs.Effects.{gateOf, refuse}

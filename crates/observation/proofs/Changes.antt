@@ -11,7 +11,7 @@ use Rattle.words.specs.declared.SceneKey.{SceneKey}
 use Rattle.slots.specs.Slots.{SceneEntry}
 use Rattle.records.specs.declared.Scope.{Scope}
 use Rattle.records.specs.Records.{hits, cleared}
-use Rattle.scenes.specs.Table.{Table, entriesIn, recordsIn}
+use Rattle.state.specs.Table.{Table, entriesIn, recordsIn}
 use Rattle.observation.specs.Lists.{count, find}
 use Rattle.observation.specs.Equivalence.{keyIs, mine, ofFabric}
 use Rattle.observation.proofs.Lists.{has, put}

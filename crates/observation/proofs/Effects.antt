@@ -12,11 +12,11 @@ use Rattle.slots.specs.Slots.{SceneEntry}
 use Rattle.records.specs.declared.Scope.{Scope}
 use Rattle.records.specs.declared.Scope.the-variants.{Scene, Group}
 use Rattle.requests.specs.Requests.{wholeGroup, addGate, storeGate, lookupGate, groupGate, copyGate, infoGate}
-use Rattle.scenes.specs.declared.Applied.{Applied}
-use Rattle.scenes.specs.declared.Applied.the-variants.{Yes, Failed}
-use Rattle.scenes.specs.declared.Transition.{Transition}
-use Rattle.scenes.specs.Table.{Table}
-use Rattle.scenes.specs.Reads.{effectiveTime}
+use Rattle.commands.specs.declared.Applied.{Applied}
+use Rattle.commands.specs.declared.Applied.the-variants.{Yes, Failed}
+use Rattle.reads.specs.declared.Transition.{Transition}
+use Rattle.state.specs.Table.{Table}
+use Rattle.reads.specs.Reads.{effectiveTime}
 use Rattle.observation.specs.Lists.{bit, count, find, keep}
 use Rattle.observation.specs.Calls.{Command, add, view, remove, removeAll, store, recall, copy, membership, info, Call, Answer, answer, next, sceneKey, groupKey, copyRequest}
 use Rattle.observation.specs.Equivalence.{keyIs}

@@ -16,10 +16,10 @@ use Rattle.words.specs.declared.SceneKey.{SceneKey}
 use Rattle.slots.specs.Slots.{SceneEntry, entryAt, firstKey, keySound, putSlot, copySlot, outside, gathered}
 use Rattle.slots.proofs.Laws.{Bounds, outside-le, outside-under}
 use Rattle.slots.proofs.View.{put-lengths, put-at, put-size, put-other, copy-lengths, copy-at, copy-other, retained-lengths, retained-at, SameEntry, lengths-all}
-use Rattle.scenes.specs.Table.{Table, entriesIn, recordsIn, withEntries}
-use Rattle.scenes.specs.Sound.{sound}
-use Rattle.scenes.specs.Change.{findScene, putAt, append, swapRemove, retainOutside}
-use Rattle.scenes.proofs.Laws.{found-under}
+use Rattle.state.specs.Table.{Table, entriesIn, recordsIn, withEntries}
+use Rattle.state.specs.Sound.{sound}
+use Rattle.state.specs.Change.{findScene, putAt, append, swapRemove, retainOutside}
+use Rattle.state.proofs.Laws.{found-under}
 use Rattle.observation.specs.Lists.{keep}
 use Rattle.observation.specs.Equivalence.{keyIs}
 use Rattle.observation.proofs.Lists.{put, takeOut}

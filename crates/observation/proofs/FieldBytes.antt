@@ -14,15 +14,15 @@ use Rattle.words.specs.declared.SceneKey.{SceneKey}
 use Rattle.slots.specs.Slots.{fieldsAt}
 use Rattle.requests.specs.declared.Membership.{Membership}
 use Rattle.requests.specs.Requests.{lookupGate}
-use Rattle.scenes.specs.declared.Transition.{Transition}
-use Rattle.scenes.specs.declared.Transition.the-variants.{Stored}
-use Rattle.scenes.specs.Table.{Table}
-use Rattle.scenes.specs.Sound.{sound}
-use Rattle.scenes.specs.Change.{findScene}
-use Rattle.scenes.specs.Answer.{refusalOf, guarded}
-use Rattle.scenes.specs.Reads.{unread, readAt, recallLookup, viewScene, fieldBytes}
-use Rattle.scenes.proofs.Laws.{sound-bounds, found-under}
-use Rattle.scenes.proofs.Guard.{when-refused, when-passed, passed-sound}
+use Rattle.reads.specs.declared.Transition.{Transition}
+use Rattle.reads.specs.declared.Transition.the-variants.{Stored}
+use Rattle.state.specs.Table.{Table}
+use Rattle.state.specs.Sound.{sound}
+use Rattle.state.specs.Change.{findScene}
+use Rattle.state.specs.Answer.{refusalOf, guarded}
+use Rattle.reads.specs.Reads.{unread, readAt, recallLookup, viewScene, fieldBytes}
+use Rattle.state.proofs.Laws.{sound-bounds, found-under}
+use Rattle.state.proofs.Guard.{when-refused, when-passed, passed-sound}
 use Rattle.observation.specs.FieldBytes.{Tied}
 
 -- no table has an entry at the position of a refusal

@@ -11,8 +11,8 @@ use Rattle.words.specs.Constants.{insufficientSpace}
 use Rattle.words.proofs.Tests.{and-false}
 use Rattle.slots.specs.Slots.{SceneEntry}
 use Rattle.records.specs.declared.Scope.the-variants.{Endpoint}
-use Rattle.scenes.specs.Table.{Table, entriesIn}
-use Rattle.scenes.specs.Sound.{sound}
+use Rattle.state.specs.Table.{Table, entriesIn}
+use Rattle.state.specs.Sound.{sound}
 use Rattle.observation.specs.Lists.{count, keep}
 use Rattle.observation.specs.Calls.{Command, command, notice, answer, next, CommandInRange}
 use Rattle.observation.specs.Equivalence.{Event, own, noticed, wholeCopy, unless, Alike, AllInRange, mine, Agree}

@@ -10,10 +10,10 @@ use Rattle.words.specs.Constants.{success, insufficientSpace, notFound, noFabri
 use Rattle.words.specs.Words.{wordOf, groupKeys}
 use Rattle.records.specs.declared.Scope.the-variants.{Scene, Group, Endpoint}
 use Rattle.requests.specs.declared.Membership.{Membership}
-use Rattle.scenes.specs.declared.Applied.{Applied}
-use Rattle.scenes.specs.declared.Transition.{Transition}
-use Rattle.scenes.specs.Table.{Table}
-use Rattle.scenes.specs.Sound.{sound}
+use Rattle.commands.specs.declared.Applied.{Applied}
+use Rattle.reads.specs.declared.Transition.{Transition}
+use Rattle.state.specs.Table.{Table}
+use Rattle.state.specs.Sound.{sound}
 use Rattle.observation.specs.Lists.{find, keep}
 use Rattle.observation.specs.Calls.{Command, add, view, remove, removeAll, store, recall, copy, membership, info, Call, command, notice, removal, reset, start, failSafeEvent, next, sceneKey, groupKey, CommandInRange, InRange}
 use Rattle.observation.specs.Equivalence.{keyIs, mine, ofFabric}

@@ -11,7 +11,7 @@ use Rattle.words.specs.declared.Found.the-variants.{At, Nothing}
 use Rattle.words.specs.declared.KeyRange.{KeyRange}
 use Rattle.words.specs.declared.SceneKey.{SceneKey}
 use Rattle.slots.specs.Slots.{SceneEntry}
-use Rattle.scenes.specs.Table.{Table, recordsIn}
+use Rattle.state.specs.Table.{Table, recordsIn}
 use Rattle.observation.proofs.Lists.{has, put}
 
 -- ---- tests

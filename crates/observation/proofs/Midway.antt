@@ -22,15 +22,15 @@ use Rattle.slots.proofs.Laws as laws
 use Rattle.slots.proofs.View.{SameLengths, put-lengths, put-at, put-other}
 use Rattle.requests.specs.declared.CopyRequest.{CopyRequest}
 use Rattle.requests.specs.Requests.{wholeGroup, copyGate}
-use Rattle.scenes.specs.Table.{Table, Entries, EntryRoom, withEntryCount}
-use Rattle.scenes.specs.Sound.{sound}
-use Rattle.scenes.specs.Capacity.{roomFor, remaining}
-use Rattle.scenes.specs.Change.{putAt, append}
-use Rattle.scenes.specs.Answer.{Result, refused, refusalOf, guarded}
-use Rattle.scenes.specs.Copy.{Copied, copyTo, copyEntry, isSource, keyIn, copyWalk, sourceGroup, targetGroup, copySources, copied, copyScenesInner, copyScene}
-use Rattle.scenes.proofs.Guard.{passed-sound}
-use Rattle.scenes.proofs.Laws.{found-under}
-use Rattle.scenes.proofs.CopyLaws.{sound-copy-room, room-bounds, entry-length, room-free, copy-kept}
+use Rattle.state.specs.Table.{Table, Entries, EntryRoom, withEntryCount}
+use Rattle.state.specs.Sound.{sound}
+use Rattle.state.specs.Capacity.{roomFor, remaining}
+use Rattle.state.specs.Change.{putAt, append}
+use Rattle.state.specs.Answer.{Result, refused, refusalOf, guarded}
+use Rattle.copies.specs.Copy.{Copied, copyTo, copyEntry, isSource, keyIn, copyWalk, sourceGroup, targetGroup, copySources, copied, copyScenesInner, copyScene}
+use Rattle.state.proofs.Guard.{passed-sound}
+use Rattle.state.proofs.Laws.{found-under}
+use Rattle.copies.proofs.Laws.{sound-copy-room, room-bounds, entry-length, room-free, copy-kept}
 use Rattle.observation.specs.Refusals.{copy, SameByte, Kept, inTarget, PastSources, CopyOf, AlikeFrom, RanOut, Midway}
 use Rattle.observation.proofs.Choices.{cond-elim}
 

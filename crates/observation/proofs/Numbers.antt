@@ -17,20 +17,20 @@ use Rattle.requests.specs.declared.Membership.{Membership}
 use Rattle.requests.specs.declared.Membership.the-variants.{Yes, No, Failed}
 use Rattle.requests.specs.declared.CopyRequest.{CopyRequest}
 use Rattle.requests.specs.Requests.{orNext, firstRefusal, refuseIf, memberGate, pairGate, pairsGate, sceneGate, copiedGate, wholeGroup, addGate, storeGate, lookupGate, groupGate, copyGate, infoGate, fabricGate}
-use Rattle.scenes.specs.declared.Applied.{Applied}
-use Rattle.scenes.specs.declared.Transition.{Transition}
-use Rattle.scenes.specs.declared.SceneRead.{SceneRead}
-use Rattle.scenes.specs.declared.InfoRead.{InfoRead}
-use Rattle.scenes.specs.Table.{Table, Entries, withEntries}
-use Rattle.scenes.specs.Sound.{sound}
-use Rattle.scenes.specs.Capacity.{mayAppend, roomFor}
-use Rattle.scenes.specs.Change.{findScene, Upserted, upsertAt, upsert, retainOutside}
-use Rattle.scenes.specs.Answer.{Result, refused, refusalOf, guarded}
-use Rattle.scenes.specs.Commands.{addScene, stored, storeCaptured, storeScene, removeFound, removeScene, removedAll, removeAllScenes, recallFound, recallScene}
-use Rattle.scenes.specs.declared.Applied.the-variants as applied
-use Rattle.scenes.specs.Copy.{Copied, copyTo, copyEntry, copyFound, copySingle, copyWalk, isSource, keyIn, sourceGroup, targetGroup, sourceKey, targetKey, copySources, copied, copyScenesInner, copyScene}
-use Rattle.scenes.specs.Reads.{readAt, recallLookup, viewScene, Listed, sceneIds, listIds, getSceneMembership, infoRow, readFabricSceneInfo}
-use Rattle.scenes.specs.Lifecycle.{scenableAttributeChanged, removedFabric, removeForFabric, factoryReset, startup, failSafe}
+use Rattle.commands.specs.declared.Applied.{Applied}
+use Rattle.reads.specs.declared.Transition.{Transition}
+use Rattle.reads.specs.declared.SceneRead.{SceneRead}
+use Rattle.reads.specs.declared.InfoRead.{InfoRead}
+use Rattle.state.specs.Table.{Table, Entries, withEntries}
+use Rattle.state.specs.Sound.{sound}
+use Rattle.state.specs.Capacity.{mayAppend, roomFor}
+use Rattle.state.specs.Change.{findScene, Upserted, upsertAt, upsert, retainOutside}
+use Rattle.state.specs.Answer.{Result, refused, refusalOf, guarded}
+use Rattle.commands.specs.Commands.{addScene, stored, storeCaptured, storeScene, removeFound, removeScene, removedAll, removeAllScenes, recallFound, recallScene}
+use Rattle.commands.specs.declared.Applied.the-variants as applied
+use Rattle.copies.specs.Copy.{Copied, copyTo, copyEntry, copyFound, copySingle, copyWalk, isSource, keyIn, sourceGroup, targetGroup, sourceKey, targetKey, copySources, copied, copyScenesInner, copyScene}
+use Rattle.reads.specs.Reads.{readAt, recallLookup, viewScene, Listed, sceneIds, listIds, getSceneMembership, infoRow, readFabricSceneInfo}
+use Rattle.lifecycle.specs.Lifecycle.{scenableAttributeChanged, removedFabric, removeForFabric, factoryReset, startup, failSafe}
 use Rattle.observation.specs.Numbers.{Among}
 
 -- what holds in both cases of a test

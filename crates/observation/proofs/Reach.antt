@@ -7,8 +7,8 @@ use lib.Dec.{eqb}
 use borrow.Author.Tests.{eqb-true, eqb-false}
 use Rattle.words.specs.Below.{positions}
 use Rattle.records.specs.declared.Scope.the-variants.{Endpoint}
-use Rattle.scenes.specs.Table.{Table, entriesIn, recordsIn}
-use Rattle.scenes.specs.Sound.{sound}
+use Rattle.state.specs.Table.{Table, entriesIn, recordsIn}
+use Rattle.state.specs.Sound.{sound}
 use Rattle.observation.specs.Calls.{Command, add, view, remove, removeAll, store, recall, copy, membership, info, Call, command, notice, removal, reset, start, failSafeEvent, next, CommandInRange, InRange}
 use Rattle.observation.specs.Equivalence.{Reached, empty, after}
 use Rattle.observation.proofs.Changes.{View, viewOf}

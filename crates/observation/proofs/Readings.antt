@@ -10,10 +10,10 @@ use lib.ListN.{replicate}
 use Rattle.words.specs.Constants.{stride, success}
 use Rattle.words.specs.Words.{keyOf, endpointOf, keyOfRecord}
 use Rattle.requests.specs.declared.Membership.the-variants.{Yes}
-use Rattle.scenes.specs.Table.{Table, tableOf, newState, emptyTable, entriesIn, withEntryCount}
-use Rattle.scenes.specs.Sound.{sound}
-use Rattle.scenes.specs.Answer.{Result}
-use Rattle.scenes.specs.Copy.{copyScene}
+use Rattle.state.specs.Table.{Table, tableOf, newState, emptyTable, entriesIn, withEntryCount}
+use Rattle.state.specs.Sound.{sound}
+use Rattle.state.specs.Answer.{Result}
+use Rattle.copies.specs.Copy.{copyScene}
 use Rattle.scenes.proofs.Computing.{soundness, computing}
 use Rattle.observation.specs.Lists.{bit, count}
 use Rattle.observation.specs.Calls.{add, view, remove, store, copy, membership, Call, command, copyRequest, does, step, answer, next}

@@ -16,9 +16,9 @@ use Rattle.words.specs.declared.SceneKey.{SceneKey}
 use Rattle.records.specs.declared.Scope.{Scope}
 use Rattle.records.specs.Records.{recordSound, firstOwned, recordsOf, remember, hits, anyHit, cleared, invalidated, othersOf, moved}
 use Rattle.records.proofs.View.{sound-cleared, inUse, remember-length, remember-count, over-view, behind-view, dropped-view, length-invalidated, take-invalidated, length-moved, take-moved, others-le}
-use Rattle.scenes.specs.Table.{Table, entriesIn, recordsIn, withCurrent, withEntryCount, withRecordCount, bumpIf}
-use Rattle.scenes.specs.Sound.{sound}
-use Rattle.scenes.specs.Current.{rememberCurrent, invalidateCurrent}
+use Rattle.state.specs.Table.{Table, entriesIn, recordsIn, withCurrent, withEntryCount, withRecordCount, bumpIf}
+use Rattle.state.specs.Sound.{sound}
+use Rattle.state.specs.Current.{rememberCurrent, invalidateCurrent}
 use Rattle.observation.specs.Lists.{bit, count, keep}
 use Rattle.observation.proofs.Lists.{has, put}
 use Rattle.observation.proofs.Lookups.{ownedBy, isAt, withRecord}

@@ -19,20 +19,20 @@ use Rattle.records.specs.Records.{firstOwned}
 use Rattle.requests.specs.declared.Membership.{Membership}
 use Rattle.requests.specs.declared.CopyRequest.{CopyRequest}
 use Rattle.requests.specs.Requests.{wholeGroup, lookupGate, copyGate}
-use Rattle.scenes.specs.declared.ScenesState.{ScenesState}
-use Rattle.scenes.specs.declared.Applied.{Applied}
-use Rattle.scenes.specs.declared.Applied.the-variants as applied
-use Rattle.scenes.specs.declared.Transition.{Transition}
-use Rattle.scenes.specs.declared.SceneRead.{SceneRead}
-use Rattle.scenes.specs.declared.InfoRead.{InfoRead}
-use Rattle.scenes.specs.Table.{Table, Entries, withEntries}
-use Rattle.scenes.specs.Capacity.{mayAppend, roomFor, remaining}
-use Rattle.scenes.specs.Change.{findScene, Upserted, upsertAt, upsert, retainOutside}
-use Rattle.scenes.specs.Answer.{Result, resultOf, refused, refusalOf, guarded}
-use Rattle.scenes.specs.Commands.{saved, addScene, stored, storeCaptured, storeScene, removeFound, removeScene, removedAll, removeAllScenes, recallFound, recallScene}
-use Rattle.scenes.specs.Copy.{Copied, copiedOf, copyTo, copyEntry, copyFound, copySingle, isSource, keyIn, copyWalk, sourceGroup, targetGroup, sourceKey, targetKey, copySources, copied, copyScenesInner, copyScene}
-use Rattle.scenes.specs.Reads.{unread, readAt, recallLookup, viewScene, Listed, unlisted, sceneIds, listIds, getSceneMembership, noRow, infoRow, readFabricSceneInfo}
-use Rattle.scenes.specs.Lifecycle.{scenableAttributeChanged, removedFabric, removeForFabric, factoryReset, startup, failSafe}
+use Rattle.state.specs.declared.ScenesState.{ScenesState}
+use Rattle.commands.specs.declared.Applied.{Applied}
+use Rattle.commands.specs.declared.Applied.the-variants as applied
+use Rattle.reads.specs.declared.Transition.{Transition}
+use Rattle.reads.specs.declared.SceneRead.{SceneRead}
+use Rattle.reads.specs.declared.InfoRead.{InfoRead}
+use Rattle.state.specs.Table.{Table, Entries, withEntries}
+use Rattle.state.specs.Capacity.{mayAppend, roomFor, remaining}
+use Rattle.state.specs.Change.{saved, findScene, Upserted, upsertAt, upsert, retainOutside}
+use Rattle.state.specs.Answer.{Result, resultOf, refused, refusalOf, guarded}
+use Rattle.commands.specs.Commands.{addScene, stored, storeCaptured, storeScene, removeFound, removeScene, removedAll, removeAllScenes, recallFound, recallScene}
+use Rattle.copies.specs.Copy.{Copied, copiedOf, copyTo, copyEntry, copyFound, copySingle, isSource, keyIn, copyWalk, sourceGroup, targetGroup, sourceKey, targetKey, copySources, copied, copyScenesInner, copyScene}
+use Rattle.reads.specs.Reads.{unread, readAt, recallLookup, viewScene, Listed, unlisted, sceneIds, listIds, getSceneMembership, noRow, infoRow, readFabricSceneInfo}
+use Rattle.lifecycle.specs.Lifecycle.{scenableAttributeChanged, removedFabric, removeForFabric, factoryReset, startup, failSafe}
 use Rattle.observation.specs.Refusals.{Outward, add, store, remove, removeAll, recall, lookup, view, copy, membership, info, notice, removal, reset, start, failSafeEvent, Answered, result, scene, list, row, status, answer, only, EveryRefusal, outward, RefusedRun}
 use Rattle.observation.specs.Calls as calls
 use Rattle.observation.proofs.Choices.{cond-elim, and-other}

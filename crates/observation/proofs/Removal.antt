@@ -13,10 +13,10 @@ use Rattle.words.specs.Words.{wordOf, fabricOf, validRecord}
 use Rattle.words.specs.Below.{positions}
 use Rattle.records.specs.declared.Scope.the-variants.{Scene}
 use Rattle.requests.specs.declared.Membership.{Membership}
-use Rattle.scenes.specs.Table.{Table, entriesIn, recordsIn}
-use Rattle.scenes.specs.Sound.{sound}
-use Rattle.scenes.specs.Commands.{storeScene}
-use Rattle.scenes.specs.Lifecycle.{removeForFabric}
+use Rattle.state.specs.Table.{Table, entriesIn, recordsIn}
+use Rattle.state.specs.Sound.{sound}
+use Rattle.commands.specs.Commands.{storeScene}
+use Rattle.lifecycle.specs.Lifecycle.{removeForFabric}
 use Rattle.observation.specs.Lists.{find, keep}
 use Rattle.observation.specs.Calls.{Command, store, command, removal, does, step, sceneKey, CommandInRange}
 use Rattle.observation.specs.Equivalence.{keyIs, mine, ofFabric}

@@ -16,8 +16,8 @@ use Rattle.words.proofs.Ranges.{endpoint-keys, group-keys}
 use Rattle.slots.specs.Slots.{SceneEntry}
 use Rattle.records.specs.declared.Scope.the-variants.{Scene, Group}
 use Rattle.requests.specs.declared.Membership.{Membership}
-use Rattle.scenes.specs.declared.Applied.{Applied}
-use Rattle.scenes.specs.declared.Transition.{Transition}
+use Rattle.commands.specs.declared.Applied.{Applied}
+use Rattle.reads.specs.declared.Transition.{Transition}
 use Rattle.observation.specs.Lists.{bit, count, find, keep}
 use Rattle.observation.specs.Calls.{Command, add, view, remove, removeAll, store, recall, membership, info, Answer, sceneKey, groupKey, CommandInRange}
 use Rattle.observation.specs.Equivalence.{keyIs, Same, wholeCopy, mine, seen}

@@ -15,10 +15,10 @@ use Rattle.slots.proofs.Laws.{Bounds}
 use Rattle.slots.proofs.View.{keys-at, keys-all, lengths-at, lengths-all, SameLengths, SameEntry}
 use Rattle.records.specs.Records.{recordSound}
 use Rattle.records.proofs.View.{sound-at, sound-all}
-use Rattle.scenes.specs.declared.ScenesState.{ScenesState}
-use Rattle.scenes.specs.Table.{Table, withEntryCount, withRecordCount, bumpIf}
-use Rattle.scenes.specs.Sound.{inBounds, sound}
-use Rattle.scenes.proofs.Laws.{InBounds, sound-bounds}
+use Rattle.state.specs.declared.ScenesState.{ScenesState}
+use Rattle.state.specs.Table.{Table, withEntryCount, withRecordCount, bumpIf}
+use Rattle.state.specs.Sound.{inBounds, sound}
+use Rattle.state.proofs.Laws.{InBounds, sound-bounds}
 
 pub record Sound (t : Table) : Type 0 where
   pub most : t .state .size ≤ maxScenes

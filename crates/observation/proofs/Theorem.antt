@@ -8,7 +8,7 @@ use mathlib.Core.List.{List, _∷_, List·Memᴰ, List·Memᴰ·head, List·Mem�
 use lib.Dec.{eqb}
 use borrow.Author.Tests.{eqb-false}
 use Rattle.words.specs.Words.{sceneOf, keyOfRecord}
-use Rattle.scenes.specs.Table.{Table, entriesIn, recordsIn}
+use Rattle.state.specs.Table.{Table, entriesIn, recordsIn}
 use Rattle.requests.specs.Requests.{reserved}
 use Rattle.observation.specs.Lists.{count}
 use Rattle.observation.specs.Equivalence.{Reached, Proper, Demand3}

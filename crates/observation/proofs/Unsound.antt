@@ -5,14 +5,14 @@ use mathlib.Core.Bool.{false, cond}
 use mathlib.Core.List.{[]}
 use lib.Dec.{eqb}
 use Rattle.words.specs.Constants.{success, unsound}
-use Rattle.scenes.specs.declared.SceneRead.{SceneRead}
-use Rattle.scenes.specs.Table.{Table}
-use Rattle.scenes.specs.Sound.{sound}
-use Rattle.scenes.specs.Answer.{refusalOf, guarded}
-use Rattle.scenes.specs.Commands.{addScene, storeScene, removeScene, removeAllScenes, recallScene}
-use Rattle.scenes.specs.Copy.{copyScene}
-use Rattle.scenes.specs.Reads.{unread, viewScene, recallLookup, getSceneMembership, readFabricSceneInfo}
-use Rattle.scenes.specs.Lifecycle.{scenableAttributeChanged, removeForFabric, factoryReset, startup, failSafe}
+use Rattle.reads.specs.declared.SceneRead.{SceneRead}
+use Rattle.state.specs.Table.{Table}
+use Rattle.state.specs.Sound.{sound}
+use Rattle.state.specs.Answer.{refusalOf, guarded}
+use Rattle.commands.specs.Commands.{addScene, storeScene, removeScene, removeAllScenes, recallScene}
+use Rattle.copies.specs.Copy.{copyScene}
+use Rattle.reads.specs.Reads.{unread, viewScene, recallLookup, getSceneMembership, readFabricSceneInfo}
+use Rattle.lifecycle.specs.Lifecycle.{scenableAttributeChanged, removeForFabric, factoryReset, startup, failSafe}
 use Rattle.observation.specs.Calls.{Command, add, view, remove, removeAll, store, recall, copy, membership, info, Call, command, notice, removal, reset, start, failSafeEvent, Out, withState, ofResult, ofView, ofRecall, ofList, ofInfo, sceneKey, does, step}
 use Rattle.observation.specs.Refusals.{UnsoundRun}
 

@@ -16,9 +16,9 @@ use Rattle.words.proofs.Below.{first-under}
 use Rattle.slots.specs.Slots.{entryAt, firstKey, countKeys}
 use Rattle.records.specs.declared.Scope.{Scope}
 use Rattle.records.specs.Records.{firstOwned, hits, anyHit}
-use Rattle.scenes.specs.Table.{Table, entriesIn, recordsIn}
-use Rattle.scenes.specs.Sound.{sound}
-use Rattle.scenes.proofs.Laws.{sound-room}
+use Rattle.state.specs.Table.{Table, entriesIn, recordsIn}
+use Rattle.state.specs.Sound.{sound}
+use Rattle.state.proofs.Laws.{sound-room}
 use Rattle.observation.specs.Lists.{count, find}
 use Rattle.observation.specs.Equivalence.{keyIs}
 use Rattle.observation.proofs.Lists.{found, has}

@@ -11,18 +11,18 @@ use Rattle.words.specs.declared.SceneKey.{SceneKey}
 use Rattle.words.specs.declared.GroupKey.{GroupKey}
 use Rattle.requests.specs.declared.Membership.{Membership}
 use Rattle.requests.specs.declared.CopyRequest.{CopyRequest}
-use Rattle.scenes.specs.declared.ScenesState.{ScenesState}
-use Rattle.scenes.specs.declared.Applied.{Applied}
-use Rattle.scenes.specs.declared.Transition.{Transition}
-use Rattle.scenes.specs.declared.Transition.the-variants.{Stored, Given}
-use Rattle.scenes.specs.declared.SceneRead.{SceneRead}
-use Rattle.scenes.specs.declared.InfoRead.{InfoRead}
-use Rattle.scenes.specs.Table.{Table}
-use Rattle.scenes.specs.Answer.{Result}
-use Rattle.scenes.specs.Commands.{addScene, storeScene, removeScene, removeAllScenes, recallScene}
-use Rattle.scenes.specs.Copy.{copyScene}
-use Rattle.scenes.specs.Reads.{viewScene, recallLookup, fieldBytes, Listed, getSceneMembership, readFabricSceneInfo}
-use Rattle.scenes.specs.Lifecycle.{scenableAttributeChanged, removeForFabric, factoryReset, startup, failSafe}
+use Rattle.state.specs.declared.ScenesState.{ScenesState}
+use Rattle.commands.specs.declared.Applied.{Applied}
+use Rattle.reads.specs.declared.Transition.{Transition}
+use Rattle.reads.specs.declared.Transition.the-variants.{Stored, Given}
+use Rattle.reads.specs.declared.SceneRead.{SceneRead}
+use Rattle.reads.specs.declared.InfoRead.{InfoRead}
+use Rattle.state.specs.Table.{Table}
+use Rattle.state.specs.Answer.{Result}
+use Rattle.commands.specs.Commands.{addScene, storeScene, removeScene, removeAllScenes, recallScene}
+use Rattle.copies.specs.Copy.{copyScene}
+use Rattle.reads.specs.Reads.{viewScene, recallLookup, fieldBytes, Listed, getSceneMembership, readFabricSceneInfo}
+use Rattle.lifecycle.specs.Lifecycle.{scenableAttributeChanged, removeForFabric, factoryReset, startup, failSafe}
 use Rattle.observation.specs.Lists.{bit, count}
 
 -- a fabric's command or read on one of its endpoints, with what the host inputs; a scene list buffer is lent to membership

@@ -11,8 +11,8 @@ use Rattle.words.specs.Constants.{insufficientSpace}
 use Rattle.words.specs.Words.{fabricOf, endpointOf, groupOf, sceneOf, keyOfRecord, isValid}
 use Rattle.slots.specs.Slots.{SceneEntry}
 use Rattle.requests.specs.Requests.{wholeGroup}
-use Rattle.scenes.specs.Table.{Table, entriesIn, recordsIn}
-use Rattle.scenes.specs.Sound.{sound}
+use Rattle.state.specs.Table.{Table, entriesIn, recordsIn}
+use Rattle.state.specs.Sound.{sound}
 use Rattle.observation.specs.Lists.{count, find, keep}
 use Rattle.observation.specs.Calls.{Command, add, view, remove, removeAll, store, recall, copy, membership, info, Call, command, notice, Answer, answer, next, InRange}
 

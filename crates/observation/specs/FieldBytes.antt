@@ -5,10 +5,10 @@ use Rattle.words.specs.Constants.{success}
 use Rattle.words.specs.declared.Found.the-variants.{At}
 use Rattle.words.specs.declared.SceneKey.{SceneKey}
 use Rattle.slots.specs.Slots.{entryAt}
-use Rattle.scenes.specs.declared.SceneRead.{SceneRead}
-use Rattle.scenes.specs.Table.{Table}
-use Rattle.scenes.specs.Change.{findScene}
-use Rattle.scenes.specs.Reads.{fieldBytes}
+use Rattle.reads.specs.declared.SceneRead.{SceneRead}
+use Rattle.state.specs.Table.{Table}
+use Rattle.state.specs.Change.{findScene}
+use Rattle.reads.specs.Reads.{fieldBytes}
 
 -- what a read that succeeded says of its scene, and a refused one of no scene
 pub record Tied (key : SceneKey) (t : Table) (r : SceneRead) : Type 0 where

@@ -15,18 +15,18 @@ use Rattle.slots.specs.Slots.{Slots, SceneEntry, entryAt}
 use Rattle.requests.specs.declared.Membership.{Membership}
 use Rattle.requests.specs.declared.CopyRequest.{CopyRequest}
 use Rattle.requests.specs.Requests.{wholeGroup}
-use Rattle.scenes.specs.declared.Applied.{Applied}
-use Rattle.scenes.specs.declared.Transition.{Transition}
-use Rattle.scenes.specs.declared.SceneRead.{SceneRead}
-use Rattle.scenes.specs.declared.InfoRead.{InfoRead}
-use Rattle.scenes.specs.Table.{Table, withEntryCount}
-use Rattle.scenes.specs.Sound.{sound}
-use Rattle.scenes.specs.Capacity.{remaining}
-use Rattle.scenes.specs.Answer.{Result, refused}
-use Rattle.scenes.specs.Commands.{addScene, storeScene, removeScene, removeAllScenes, recallScene}
-use Rattle.scenes.specs.Copy.{sourceGroup, targetGroup, keyIn, isSource, copyScene}
-use Rattle.scenes.specs.Reads.{unread, viewScene, recallLookup, Listed, unlisted, getSceneMembership, noRow, readFabricSceneInfo}
-use Rattle.scenes.specs.Lifecycle.{scenableAttributeChanged, removeForFabric, factoryReset, startup, failSafe}
+use Rattle.commands.specs.declared.Applied.{Applied}
+use Rattle.reads.specs.declared.Transition.{Transition}
+use Rattle.reads.specs.declared.SceneRead.{SceneRead}
+use Rattle.reads.specs.declared.InfoRead.{InfoRead}
+use Rattle.state.specs.Table.{Table, withEntryCount}
+use Rattle.state.specs.Sound.{sound}
+use Rattle.state.specs.Capacity.{remaining}
+use Rattle.state.specs.Answer.{Result, refused}
+use Rattle.commands.specs.Commands.{addScene, storeScene, removeScene, removeAllScenes, recallScene}
+use Rattle.copies.specs.Copy.{sourceGroup, targetGroup, keyIn, isSource, copyScene}
+use Rattle.reads.specs.Reads.{unread, viewScene, recallLookup, Listed, unlisted, getSceneMembership, noRow, readFabricSceneInfo}
+use Rattle.lifecycle.specs.Lifecycle.{scenableAttributeChanged, removeForFabric, factoryReset, startup, failSafe}
 use Rattle.observation.specs.Calls as calls
 
 -- ---- the outward calls, each with all its inputs but the table

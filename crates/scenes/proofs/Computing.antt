@@ -6,15 +6,15 @@ use Rattle.words.specs.Below.{positions, everyBelow, anyBelow, countBelow, firs
 use Rattle.slots.specs.Slots.{firstKey, countKeys, keysSound, lengthsSound, overlay, putSlot, copySlot, laid, scenesInside}
 use Rattle.records.specs.Records.{recordsSound, firstOwned, rememberAt, remember, inScope, anyHit, mapFirst, invalidated}
 use Rattle.requests.specs.Requests.{orNext, firstRefusal, memberGate, pairsGate, addGate, storeGate, lookupGate, groupGate, copyGate}
-use Rattle.scenes.specs.Table.{entriesIn, recordsIn}
-use Rattle.scenes.specs.Sound.{inBounds, sound}
-use Rattle.scenes.specs.Capacity.{roomFor, remaining}
-use Rattle.scenes.specs.Current.{rememberCurrent, invalidateCurrent}
-use Rattle.scenes.specs.Change.{putAt, append, upsertAt, upsert, swapRemove}
-use Rattle.scenes.specs.Answer.{refusalOf, guarded}
-use Rattle.scenes.specs.Commands.{addScene, stored, storeCaptured, storeScene, removeFound, removeScene, recallFound, recallScene}
-use Rattle.scenes.specs.Copy.{copyTo, copyEntry, copyFound, copySingle, copyWalk, copySources, copied, copyScenesInner, copyScene}
-use Rattle.scenes.specs.Reads.{readAt, recallLookup, viewScene, fieldBytes, listIds, getSceneMembership}
+use Rattle.state.specs.Table.{entriesIn, recordsIn}
+use Rattle.state.specs.Sound.{inBounds, sound}
+use Rattle.state.specs.Capacity.{roomFor, remaining}
+use Rattle.state.specs.Current.{rememberCurrent, invalidateCurrent}
+use Rattle.state.specs.Change.{putAt, append, upsertAt, upsert, swapRemove}
+use Rattle.state.specs.Answer.{refusalOf, guarded}
+use Rattle.commands.specs.Commands.{addScene, stored, storeCaptured, storeScene, removeFound, removeScene, recallFound, recallScene}
+use Rattle.copies.specs.Copy.{copyTo, copyEntry, copyFound, copySingle, copyWalk, copySources, copied, copyScenesInner, copyScene}
+use Rattle.reads.specs.Reads.{readAt, recallLookup, viewScene, fieldBytes, listIds, getSceneMembership}
 
 unfoldable pub soundness : Unit {0}
 unfolding sound inBounds allOf keysSound lengthsSound recordsSound everyBelow

@@ -143,15 +143,23 @@ pub fn entries_sound(keys: &[u64], fields: &[u8], n: usize) -> bool
     true
 }
 
+// How many field bytes the entry at a position has.
+pub fn length_at(fields: &[u8], at: usize) -> usize
+    requires { ⌜ at * stride + stride ≤ length (now fields) ⌝ }
+    ensures { λ r. ⌜ r ≡ lengthAt (now (fields .entry)) at ⌝ }
+{
+    let base = at * Slot::STRIDE;
+    fields[base] as usize
+}
+
 // The field bytes of the entry at a position, up to its length: a part of the lent slice.
 pub fn field_bytes(fields: &[u8], at: usize) -> &[u8]
     requires { ⌜ at * stride + stride ≤ length (now fields) ⌝ }
     requires { ⌜ lengthAt (now fields) at ≤ maxFields ⌝ }
     ensures { λ r. ⌜ now r ≡ fieldsAt (now (fields .entry)) at ⌝ }
 {
-    let base = at * Slot::STRIDE;
-    let size = fields[base] as usize;
-    let from = base + 1;
+    let size = length_at(fields, at);
+    let from = at * Slot::STRIDE + 1;
     &fields[from..from + size]
 }
 

@@ -1,7 +1,7 @@
 -- `host::scenes_copy` meets its contract. Assumes nothing.
 use mathlib.Core.Path.{_∙_}
-use Rattle.scenes.specs.Table.{tableOf}
-use Rattle.scenes.specs.Copy.{copyScene}
+use Rattle.state.specs.Table.{tableOf}
+use Rattle.copies.specs.Copy.{copyScene}
 use borrow.Author.Needs.{needs}
 use Rattle.host.proofs.scenes_copy.Statement.{statement}
 use Rattle.host.proofs.scenes_copy.Tie as tie

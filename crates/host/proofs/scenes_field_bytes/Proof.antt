@@ -4,8 +4,8 @@ use mathlib.Core.Path.{_≡_, sym, ap, _∙_}
 use native.Mathlib.Omega.{arith}
 use lib.ListN.{length}
 use Rattle.words.specs.Constants.{maxScenes, stride}
-use Rattle.scenes.specs.Table.{Table, tableOf}
-use Rattle.scenes.specs.Reads.{fieldBytes}
+use Rattle.state.specs.Table.{Table, tableOf}
+use Rattle.reads.specs.Reads.{fieldBytes}
 use Rattle.host.proofs.Fields.{place-none, place-some, below-most}
 use borrow.Author.Needs.{needs}
 use Rattle.host.proofs.scenes_field_bytes.Statement.{statement}
@@ -31,11 +31,11 @@ field-bytes-requires c κs = search needs
 returns : tie.Need-returns
 returns c = place-none (asked (c .before)) (came (c .before)) (sym (size (c .before)) ∙ c .if1 .taken)
 
-mul-t10 : tie.Need-mul-t10
-mul-t10 c = let l = place c in omega arith
+mul-offset : tie.Need-mul-offset
+mul-offset c = let l = place c in omega arith
 
-add-t11 : tie.Need-add-t11
-add-t11 c = let l = place c in omega arith
+add-offset : tie.Need-add-offset
+add-offset c = let l = place c in omega arith
 
 returns-2 : tie.Need-returns-2
 returns-2 c =
@@ -43,4 +43,4 @@ returns-2 c =
     ∙ place-some (asked (c .before)) (came (c .before)) (λ e. c .if1 .left (size (c .before) ∙ e))
 
 pub scenes-field-bytes-spec : {M : Type 1} → statement M
-scenes-field-bytes-spec = tie.close (tie.spec field-bytes-requires returns mul-t10 add-t11 returns-2)
+scenes-field-bytes-spec = tie.close (tie.spec field-bytes-requires returns mul-offset add-offset returns-2)

@@ -1,7 +1,7 @@
 -- `host::scenes_read_info` meets its contract. Assumes nothing.
 use mathlib.Core.Path.{_∙_}
-use Rattle.scenes.specs.Table.{tableOf}
-use Rattle.scenes.specs.Reads.{readFabricSceneInfo}
+use Rattle.state.specs.Table.{tableOf}
+use Rattle.reads.specs.Reads.{readFabricSceneInfo}
 use borrow.Author.Needs.{needs}
 use Rattle.host.proofs.scenes_read_info.Statement.{statement}
 use Rattle.host.proofs.scenes_read_info.Tie as tie

@@ -1,7 +1,7 @@
 -- `host::scenes_recall` meets its contract. Assumes nothing.
 use mathlib.Core.Path.{_∙_}
-use Rattle.scenes.specs.Table.{tableOf}
-use Rattle.scenes.specs.Commands.{recallScene}
+use Rattle.state.specs.Table.{tableOf}
+use Rattle.commands.specs.Commands.{recallScene}
 use borrow.Author.Needs.{needs}
 use Rattle.host.proofs.scenes_recall.Statement.{statement}
 use Rattle.host.proofs.scenes_recall.Tie as tie

@@ -1,7 +1,7 @@
 -- `host::scenes_recall_lookup` meets its contract. Assumes nothing.
 use mathlib.Core.Path.{_∙_}
-use Rattle.scenes.specs.Table.{tableOf}
-use Rattle.scenes.specs.Reads.{recallLookup}
+use Rattle.state.specs.Table.{tableOf}
+use Rattle.reads.specs.Reads.{recallLookup}
 use borrow.Author.Needs.{needs}
 use Rattle.host.proofs.scenes_recall_lookup.Statement.{statement}
 use Rattle.host.proofs.scenes_recall_lookup.Tie as tie

@@ -3,7 +3,7 @@ use mathlib.Core.Path.{ap, _∙_}
 use Prim.Native.Nat.{ℕ}
 use mathlib.Core.List.{List}
 use Rattle.words.proofs.Tests.{and-intro}
-use Rattle.scenes.specs.Lifecycle.{scenableAttributeChanged}
+use Rattle.lifecycle.specs.Lifecycle.{scenableAttributeChanged}
 use Rattle.notices_run.specs.Rows.{tableFor}
 use Rattle.notices_run.proofs.Agreement.{all-typed, agreement}
 use borrow.Author.Needs.{needs}

@@ -49,12 +49,12 @@ use denote.Triple.Spec.{Meets, tripleOf}
 use denote.Triple.Table.{entered, cited}
 use denote.Triple.Walked.{says, Stays, stay-dropped, stay-none, walkOf, goes-dropped, goes-none, Walks, ends-at, walked, walk-meets}
 use denote.Exit.{yes}
-use Rattle.scenes.specs.declared.ScenesState.{ScenesState}
-use Rattle.scenes.specs.declared.Outcome.{Outcome}
-use Rattle.scenes.proofs.ScenesState as S
-use Rattle.scenes.proofs.ScenesState.Laws as S′
-use Rattle.scenes.proofs.Outcome as O
-use Rattle.scenes.proofs.Outcome.Laws as O′
+use Rattle.state.specs.declared.ScenesState.{ScenesState}
+use Rattle.state.specs.declared.Outcome.{Outcome}
+use Rattle.state.proofs.ScenesState as S
+use Rattle.state.proofs.ScenesState.Laws as S′
+use Rattle.state.proofs.Outcome as O
+use Rattle.state.proofs.Outcome.Laws as O′
 use Rattle.notices.specs.declared.CurrentScene.{CurrentScene}
 use Rattle.notices.specs.Notice.{answerOf, noticeRecords}
 use Rattle.notices.proofs.Calls.{head-vals, record-vals, outcome-is}

@@ -1,0 +1,273 @@
+// The commands that change a table that is known to be sound, apart from copies. Each has that one condition, which the outward call of
+// the same name meets by a test.
+use records::Scope;
+use requests::Membership;
+use state::Outcome;
+use state::ScenesState;
+use words::Fault;
+use words::Found;
+use words::GroupKey;
+use words::KeyRange;
+use words::Limits;
+use words::SceneKey;
+use words::Slot;
+use words::Status;
+ghost use mathlib.Core.Path.{_≡_};
+ghost use mathlib.Core.Bool.{true};
+ghost use mathlib.Core.List.{[], _∷_, _++_};
+ghost use Prim.Native.Nat.{_+_, _<_};
+ghost use lib.ListN.{length, take};
+ghost use Rattle.words.specs.Constants.{endOfContainer, maxFields};
+ghost use Rattle.state.specs.Table.{tableOf, Room};
+ghost use Rattle.state.specs.Sound.{sound};
+ghost use Rattle.state.specs.Answer.{resultOf};
+ghost use Rattle.commands.specs.Commands.{addScene, priorTime, storeCaptured, storeScene, removeScene, removeAllScenes, recallScene};
+
+// The head of a table that is known to be sound.
+pub struct Commands {
+    pub state: ScenesState,
+}
+
+// Whether the host applied a recalled scene.
+pub enum Applied {
+    Yes,
+    Failed,
+}
+
+// The time of the entry that was found, or 0.
+fn prior_time(found: Found, times: &[u32]) -> u32
+    ensures { λ r. ⌜ r ≡ priorTime found (now (times .entry)) ⌝ }
+{
+    let Found::At(at) = found else {
+        return 0;
+    };
+    if at < times.len() {
+        return times[at];
+    }
+    0
+}
+
+// Copies captured bytes to the front of a scratch buffer, and the end of a TLV array behind them. How many bytes they are then.
+fn end_capture(scratch: &mut [u8], captured: &[u8]) -> usize
+    requires { ⌜ length (now captured) < length (now scratch) ⌝ }
+    ensures { λ r. ⌜ (r ≡ length (now (captured .entry)) + 1) × (take r (now (scratch .exit)) ≡ now (captured .entry) ++ (endOfContainer ∷ [])) ⌝ }
+{
+    let len = captured.len();
+    let mut i = 0;
+    while i < len {
+        scratch[i] = captured[i];
+        i += 1;
+    }
+    scratch[len] = Slot::END_OF_CONTAINER;
+    len + 1
+}
+
+impl Commands {
+    // Adds a scene, or gives it a new time and new fields.
+    pub fn add_scene(
+        self,
+        keys: &mut [u64],
+        times: &mut [u32],
+        fields: &mut [u8],
+        records: &mut [u64],
+        key: SceneKey,
+        time: u32,
+        member: Membership,
+        pairs: &[u8],
+        ext: &[u8],
+    ) -> Outcome
+        requires { ⌜ sound (tableOf (self .state) (now keys) (now times) (now fields) (now records)) ≡ true ⌝ }
+        ensures { λ r.
+            let before = tableOf (self .state) (now (keys .entry)) (now (times .entry)) (now (fields .entry)) (now (records .entry)) in
+            let after = tableOf (r .state) (now (keys .exit)) (now (times .exit)) (now (fields .exit)) (now (records .exit)) in
+            ⌜ resultOf (r .status) (r .save) after ≡ addScene key time member (now (pairs .entry)) (now (ext .entry)) before ⌝ }
+    {
+        let state = self.state;
+        let gate = requests::add_gate(
+            key,
+            time,
+            member,
+            pairs,
+            Limits::MAX_EXT_FIELDS_LEN,
+            ext.len(),
+        );
+        if gate != Status::SUCCESS {
+            return Outcome::unsaved(gate, state);
+        }
+        let n = state.entries;
+        let found = slots::find(keys, n, key.word());
+        state.upsert_scene(keys, times, fields, records, found, key, time, ext)
+    }
+
+    // Stores captured bytes as a scene, and remembers it as the fabric's current one.
+    pub fn store_scene(
+        self,
+        keys: &mut [u64],
+        times: &mut [u32],
+        fields: &mut [u8],
+        records: &mut [u64],
+        key: SceneKey,
+        member: Membership,
+        captured: &[u8],
+    ) -> Outcome
+        requires { ⌜ sound (tableOf (self .state) (now keys) (now times) (now fields) (now records)) ≡ true ⌝ }
+        ensures { λ r.
+            let before = tableOf (self .state) (now (keys .entry)) (now (times .entry)) (now (fields .entry)) (now (records .entry)) in
+            let after = tableOf (r .state) (now (keys .exit)) (now (times .exit)) (now (fields .exit)) (now (records .exit)) in
+            ⌜ resultOf (r .status) (r .save) after ≡ storeScene key member (now (captured .entry)) before ⌝ }
+    {
+        let state = self.state;
+        let gate = requests::store_gate(key, member, Limits::MAX_EXT_FIELDS_LEN, captured.len());
+        if gate != Status::SUCCESS {
+            return Outcome::unsaved(gate, state);
+        }
+        self.store_captured(keys, times, fields, records, key, captured)
+    }
+
+    // Stores captured bytes over the scene, or as a new one with time 0.
+    fn store_captured(
+        self,
+        keys: &mut [u64],
+        times: &mut [u32],
+        fields: &mut [u8],
+        records: &mut [u64],
+        key: SceneKey,
+        captured: &[u8],
+    ) -> Outcome
+        requires { ⌜ Room (tableOf (self .state) (now keys) (now times) (now fields) (now records)) ⌝ }
+        requires { ⌜ length (now captured) < maxFields ⌝ }
+        ensures { λ r.
+            let before = tableOf (self .state) (now (keys .entry)) (now (times .entry)) (now (fields .entry)) (now (records .entry)) in
+            let after = tableOf (r .state) (now (keys .exit)) (now (times .exit)) (now (fields .exit)) (now (records .exit)) in
+            ⌜ resultOf (r .status) (r .save) after ≡ storeCaptured key (now (captured .entry)) before ⌝ }
+    {
+        let mut scratch = [0u8; Limits::MAX_EXT_FIELDS_LEN];
+        let len = end_capture(&mut scratch, captured);
+        let before = self.state;
+        let n = before.entries;
+        let found = slots::find(keys, n, key.word());
+        let time = prior_time(found, times);
+        let done = before.upsert_scene(
+            keys,
+            times,
+            fields,
+            records,
+            found,
+            key,
+            time,
+            &scratch[..len],
+        );
+        let status = done.status;
+        let state = done.state;
+        if status != Status::SUCCESS {
+            return Outcome::unsaved(status, state);
+        }
+        Outcome {
+            status: Status::SUCCESS,
+            save: true,
+            state: state.remember_current(records, key),
+        }
+    }
+
+    // Removes a scene: the last entry takes its place.
+    pub fn remove_scene(
+        self,
+        keys: &mut [u64],
+        times: &mut [u32],
+        fields: &mut [u8],
+        records: &mut [u64],
+        key: SceneKey,
+        member: Membership,
+    ) -> Outcome
+        requires { ⌜ sound (tableOf (self .state) (now keys) (now times) (now fields) (now records)) ≡ true ⌝ }
+        ensures { λ r.
+            let before = tableOf (self .state) (now (keys .entry)) (now (times .entry)) (now (fields .entry)) (now (records .entry)) in
+            let after = tableOf (r .state) (now (keys .exit)) (now (times .exit)) (now (fields .exit)) (now (records .exit)) in
+            ⌜ resultOf (r .status) (r .save) after ≡ removeScene key member before ⌝ }
+    {
+        let state = self.state;
+        let gate = requests::lookup_gate(key, member);
+        if gate != Status::SUCCESS {
+            return Outcome::unsaved(gate, state);
+        }
+        let n = state.entries;
+        let Found::At(at) = slots::find(keys, n, key.word()) else {
+            return Outcome::unsaved(Status::SC_NOT_FOUND, state);
+        };
+        let shorter = state.swap_remove(keys, times, fields, at);
+        Outcome {
+            status: Status::SUCCESS,
+            save: true,
+            state: shorter.invalidate_current(records, Scope::Scene(key)),
+        }
+    }
+
+    // Removes all scenes of a group on an endpoint.
+    pub fn remove_all_scenes(
+        self,
+        keys: &mut [u64],
+        times: &mut [u32],
+        fields: &mut [u8],
+        records: &mut [u64],
+        key: GroupKey,
+        member: Membership,
+    ) -> Outcome
+        requires { ⌜ sound (tableOf (self .state) (now keys) (now times) (now fields) (now records)) ≡ true ⌝ }
+        ensures { λ r.
+            let before = tableOf (self .state) (now (keys .entry)) (now (times .entry)) (now (fields .entry)) (now (records .entry)) in
+            let after = tableOf (r .state) (now (keys .exit)) (now (times .exit)) (now (fields .exit)) (now (records .exit)) in
+            ⌜ resultOf (r .status) (r .save) after ≡ removeAllScenes key member before ⌝ }
+    {
+        let state = self.state;
+        let gate = requests::group_gate(key, member);
+        if gate != Status::SUCCESS {
+            return Outcome::unsaved(gate, state);
+        }
+        let before = state.entries;
+        let left = state.retain(keys, times, fields, KeyRange::Group(key));
+        if left.entries == before {
+            return Outcome::unsaved(Status::SUCCESS, left);
+        }
+        Outcome {
+            status: Status::SUCCESS,
+            save: true,
+            state: left.invalidate_current(records, Scope::Group(key)),
+        }
+    }
+
+    // Ends a recall: a scene that the host has applied becomes the fabric's current one.
+    pub fn recall_scene(
+        self,
+        keys: &[u64],
+        times: &[u32],
+        fields: &[u8],
+        records: &mut [u64],
+        key: SceneKey,
+        member: Membership,
+        applied: Applied,
+    ) -> Outcome
+        requires { ⌜ sound (tableOf (self .state) (now keys) (now times) (now fields) (now records)) ≡ true ⌝ }
+        ensures { λ r.
+            let before = tableOf (self .state) (now (keys .entry)) (now (times .entry)) (now (fields .entry)) (now (records .entry)) in
+            let after = tableOf (r .state) (now (keys .entry)) (now (times .entry)) (now (fields .entry)) (now (records .exit)) in
+            ⌜ resultOf (r .status) (r .save) after ≡ recallScene key member applied before ⌝ }
+    {
+        let state = self.state;
+        let gate = requests::lookup_gate(key, member);
+        if gate != Status::SUCCESS {
+            return Outcome::unsaved(gate, state);
+        }
+        let n = state.entries;
+        let Found::At(_) = slots::find(keys, n, key.word()) else {
+            return Outcome::unsaved(Status::SC_NOT_FOUND, state);
+        };
+        match applied {
+            Applied::Yes => Outcome {
+                status: Status::SUCCESS,
+                save: true,
+                state: state.remember_current(records, key),
+            },
+            Applied::Failed => Outcome::unsaved(Fault::APPLY_FAILED, state),
+        }
+    }
+}

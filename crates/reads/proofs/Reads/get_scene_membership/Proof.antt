@@ -1,0 +1,122 @@
+-- `Reads::get_scene_membership` meets its contract. Assumes nothing.
+use Prim.Native.Nat.{ℕ, _≤_, _<_}
+use mathlib.Core.Path.{_≡_, sym, _∙_}
+use mathlib.Core.Bool.{Bool, true, false}
+use mathlib.Core.List.{List}
+use native.Mathlib.Omega.{arith}
+use lib.Dec.{leb}
+use lib.ListN.{length}
+use borrow.Author.Needs.{needs}
+use borrow.Author.Tests.{lt-ltb, le-ltb, leb-true, leb-false}
+use Rattle.words.specs.Constants.{success, listTooLong}
+use Rattle.words.specs.declared.GroupKey.{GroupKey}
+use Rattle.words.specs.declared.KeyRange.the-variants.{Group}
+use Rattle.requests.specs.Requests.{groupGate}
+use Rattle.slots.specs.Slots.{countKeys, laid}
+use Rattle.slots.proofs.Laws.{scenes-length}
+use Rattle.state.specs.Table.{Table, tableOf}
+use Rattle.state.specs.Capacity.{remaining}
+use Rattle.reads.specs.Reads.{listedOf, unlisted, sceneIds, listIds, getSceneMembership}
+use Rattle.state.proofs.Guard.{Admitted, admits, refuses}
+use Rattle.reads.proofs.Reads.get_scene_membership.Statement.{statement}
+use Rattle.reads.proofs.Reads.get_scene_membership.Tie as tie
+
+-- the places that the proof refers to, each from a later one
+abbrev start : tie.After-group-gate → tie.Start
+start c = c .before .before .before .before .before .before .before
+
+abbrev passed : tie.After-count-fits → tie.Else1
+passed c = c .before
+
+abbrev counted : tie.After-list-scenes-arg → tie.After-count-fits
+counted c = c .before .before
+
+abbrev listing : tie.After-slice-known2 → tie.After-list-scenes
+listing c = c .before .before
+
+-- the table that came in
+abbrev came : tie.After-group-gate → Table
+came c = let a = start c .args in tableOf (a .self .state) (a .keys .now) (a .times .now) (a .fields .now) (a .records .now)
+
+admitted : (c : tie.Else1) → (let a = start (c .before) .args in Admitted (came (c .before)) (groupGate (a .key) (a .member)))
+admitted c = admits _ (start (c .before) .pre) _ _ (c .before .group-gate .ensures) (c .if1 .left)
+
+-- the list is as long as the group counts
+size-of : (key : GroupKey) (t : Table) → countKeys (t .slots .keys) (t .state .entries) (Group key) ≡ length (sceneIds key t)
+size-of key t = sym (scenes-length (t .slots .keys) (Group key) (t .state .entries))
+
+-- and the test for it is one of the list's length
+module _ (key : GroupKey) (t : Table) {most : ℕ} {b : Bool} (e : b ≡ leb (countKeys (t .slots .keys) (t .state .entries) (Group key)) most) where
+  fitting : b ≡ true → length (sceneIds key t) ≤ most
+  fitting h = let l = leb-true (countKeys (t .slots .keys) (t .state .entries) (Group key)) most (sym e ∙ h) in omega (arith, size-of key t)
+
+  too-long : b ≡ false → most < length (sceneIds key t)
+  too-long h = let l = leb-false (countKeys (t .slots .keys) (t .state .entries) (Group key)) most (sym e ∙ h) in omega (arith, size-of key t)
+
+list-long : (l : List ℕ) (left : ℕ) (buffer : List ℕ) (t : Table) → length buffer < length l → unlisted buffer t listTooLong ≡ listIds l left buffer t
+unfolding listIds
+list-long l left buffer t h = rw (lt-ltb (length buffer) (length l) h)
+
+list-fits : (l : List ℕ) (left : ℕ) (buffer : List ℕ) (t : Table) → length l ≤ length buffer
+    → listedOf (record { status = success; remaining = left; len = length l; state = t .state }) (laid l buffer) ≡ listIds l left buffer t
+unfolding listIds
+list-fits l left buffer t h = rw (le-ltb (length buffer) (length l) h)
+
+returns : tie.Need-returns
+unfolding getSceneMembership
+returns c =
+    let g = c .before .before in
+    let ids = start g .args .ids .now in
+    (λ d. listedOf (c .refused .ensures d) ids)
+    ∙ refuses (came g) (start g .pre) _ _ (g .group-gate .ensures) (unlisted ids (came g)) _ (c .before .if1 .taken)
+
+count-fits-requires : tie.Need-count-fits-requires
+count-fits-requires c κs = let h = admitted c .room in omega arith
+
+list-scenes-requires : tie.Need-list-scenes-requires
+list-scenes-requires c κs =
+    let n = counted c in
+    let h = admitted (passed n) .room in
+    (omega arith, leb-true _ _ (sym (n .count-fits .ensures) ∙ c .before .if2 .taken))
+
+remaining-capacity-for-fab-requires : tie.Need-remaining-capacity-for-fab-requires
+remaining-capacity-for-fab-requires c κs = let h = admitted (passed (counted (listing c .before))) .room in omega arith
+
+returns-2 : tie.Need-returns-2
+unfolding getSceneMembership
+returns-2 c =
+    let list = listing (c .before) in
+    let count = counted (list .before) in
+    let g = passed count .before in
+    let a = start g .args in
+    let size = list .list-scenes .ensures .0 ∙ size-of (a .key) (came g) in
+    (λ d. listedOf (record { status = success; remaining = c .remaining-capacity-for-fab .ensures d; len = size d; state = a .self .state }) (list .list-scenes .ensures .1 d))
+    ∙ list-fits (sceneIds (a .key) (came g)) (remaining (a .self .state) (a .keys .now) (a .key .fabric)) (a .ids .now) (came g)
+    (fitting (a .key) (came g) (count .count-fits .ensures) (list .before .before .if2 .taken))
+    ∙ admitted (passed count) .answers (unlisted (a .ids .now) (came g)) _
+
+returns-3 : tie.Need-returns-3
+unfolding getSceneMembership
+returns-3 c =
+    let count = c .before .before in
+    let g = passed count .before in
+    let a = start g .args in
+    (λ d. listedOf (c .refused2 .ensures d) (a .ids .now))
+    ∙ list-long (sceneIds (a .key) (came g)) (remaining (a .self .state) (a .keys .now) (a .key .fabric)) (a .ids .now) (came g)
+    (too-long (a .key) (came g) (count .count-fits .ensures) (c .before .if2 .left))
+    ∙ admitted (passed count) .answers (unlisted (a .ids .now) (came g)) _
+
+pub get-scene-membership-spec : {M : Type 1} → statement M
+get-scene-membership-spec =
+    tie.close
+    (tie.spec
+    (λ c κs. search needs)
+    (λ c κs. search needs)
+    returns
+    count-fits-requires
+    list-scenes-requires
+    remaining-capacity-for-fab-requires
+    (λ c. search needs)
+    returns-2
+    (λ c κs. search needs)
+    returns-3)

@@ -1,0 +1,36 @@
+-- `ScenesHandler::remove_all_scenes` meets its contract: on a sound table it is the call of this name, and on any other it answers 6. Assumes nothing.
+use mathlib.Core.Path.{sym, _∙_}
+use Rattle.state.proofs.Guard.{unsound-outcome}
+use Rattle.commands.specs.Commands.{removeAllScenes}
+use borrow.Author.Needs.{needs}
+use Rattle.scenes.proofs.ScenesHandler.remove_all_scenes.Statement.{statement}
+use Rattle.scenes.proofs.ScenesHandler.remove_all_scenes.Tie as tie
+
+-- where the table was found sound
+abbrev admitted : tie.After-remove-all-scenes-arg4 → tie.Then1
+admitted c = c .before .before .before .before
+
+remove-all-scenes-requires : tie.Need-remove-all-scenes-requires
+remove-all-scenes-requires c κs = sym (admitted c .before .is-sound .ensures) ∙ admitted c .if1 .taken
+
+returns-2 : tie.Need-returns-2
+unfolding removeAllScenes
+returns-2 c = unsound-outcome _ (sym (c .before .before .is-sound .ensures) ∙ c .before .if1 .left) _ _ _ (c .unsaved .ensures)
+
+pub remove-all-scenes-spec : {M : Type 1} → statement M
+remove-all-scenes-spec =
+    tie.close
+    (tie.spec
+    (λ c κs. search needs)
+    remove-all-scenes-requires
+    (λ c. search needs)
+    (λ c. search needs)
+    (λ c. search needs)
+    (λ c. search needs)
+    (λ c. search needs)
+    (λ c κs. search needs)
+    (λ c. search needs)
+    (λ c. search needs)
+    (λ c. search needs)
+    (λ c. search needs)
+    returns-2)

@@ -1,0 +1,124 @@
+-- The laws of the definitions, as their callers meet them. Assumes nothing.
+use Prim.Native.Nat.{ℕ, _+_, _*_, _≤_, _<_}
+use mathlib.Core.Path.{_≡_, refl, sym, ap, _∙_, subst⁻¹}
+use mathlib.Core.Bool.{Bool, true, false, cond}
+use mathlib.Core.List.{List}
+use lib.ListN.{length}
+use borrow.Author.Tests.{leb-true}
+use Rattle.words.specs.Constants.{maxScenes, maxFields, stride, success, insufficientSpace}
+use Rattle.words.specs.Words.{wordOf}
+use Rattle.words.specs.declared.Found.{Found}
+use Rattle.words.specs.declared.Found.the-variants.{At, Nothing}
+use Rattle.words.specs.declared.SceneKey.{SceneKey}
+use Rattle.words.proofs.Tests.{all-head, all-tail}
+use Rattle.words.proofs.Below.{every-at, first-under}
+use Rattle.slots.specs.Slots.{slotsOf, firstKey, putSlot, lengthsSound, lengthAt}
+use Rattle.records.specs.declared.Scope.the-variants.{Scene}
+use Rattle.state.specs.declared.ScenesState.{ScenesState}
+use Rattle.state.specs.Table.{Table, tableOf, currentOf, Room, withEntries, withEntryCount}
+use Rattle.state.specs.Sound.{inBounds, sound}
+use Rattle.state.specs.Capacity.{mayAppend}
+use Rattle.state.specs.Current.{invalidateCurrent}
+use Rattle.state.specs.Change.{findScene, putAt, append, Upserted, upsertedOf, written, upsertAt, upsert}
+
+-- ---- soundness
+
+pub record InBounds (s : ScenesState) (ks ts fs rs : ℕ) : Type 0 where
+  pub most : s .size ≤ maxScenes
+  pub entries : s .entries ≤ s .size
+  pub recorded : s .recorded ≤ s .size
+  pub keys : s .size ≤ ks
+  pub times : s .size ≤ ts
+  pub fields : s .size * stride ≤ fs
+  pub records : s .size ≤ rs
+
+pub in-bounds : (s : ScenesState) (ks ts fs rs : ℕ) → inBounds s ks ts fs rs ≡ true → InBounds s ks ts fs rs
+unfolding inBounds
+in-bounds s ks ts fs rs e =
+    let e1 = all-tail _ _ e in
+    let e2 = all-tail _ _ e1 in
+    let e3 = all-tail _ _ e2 in
+    let e4 = all-tail _ _ e3 in
+    let e5 = all-tail _ _ e4 in
+    let e6 = all-tail _ _ e5 in
+    record {
+      most = leb-true _ _ (all-head _ _ e);
+      entries = leb-true _ _ (all-head _ _ e1);
+      recorded = leb-true _ _ (all-head _ _ e2);
+      keys = leb-true _ _ (all-head _ _ e3);
+      times = leb-true _ _ (all-head _ _ e4);
+      fields = leb-true _ _ (all-head _ _ e5);
+      records = leb-true _ _ (all-head _ _ e6);
+    }
+
+pub sound-bounds : (t : Table) → sound t ≡ true → InBounds (t .state) (length (t .slots .keys)) (length (t .slots .times)) (length (t .slots .fields)) (length (t .records))
+unfolding sound
+sound-bounds t e = in-bounds (t .state) _ _ _ _ (all-head _ _ e)
+
+-- a sound table has room for its operations
+pub sound-room : (t : Table) → sound t ≡ true → Room t
+sound-room t e =
+    let f = sound-bounds t e in
+    record { entries = f .entries; recorded = f .recorded; keys = f .keys; times = f .times; fields = f .fields; records = f .records }
+
+-- the length byte of an entry of a sound table
+pub sound-length : (t : Table) (at : ℕ) → sound t ≡ true → at < t .state .entries → lengthAt (t .slots .fields) at ≤ maxFields
+unfolding sound lengthsSound
+sound-length t at e h = leb-true _ _ (every-at _ (t .state .entries) at h (all-head _ _ (all-tail _ _ (all-tail _ _ e))))
+
+-- what was found is an entry
+pub found-under : (keys : List ℕ) (n key p : ℕ) → firstKey keys n key ≡ At p → p < n
+unfolding firstKey
+found-under keys n key p e = first-under _ n p e .0
+
+-- ---- upsert
+
+-- what was not found, by whether one more entry fits
+pub may-decide : (key : SceneKey) (time : ℕ) (ext : List ℕ) (t : Table) {b : Bool}
+    → findScene key t ≡ Nothing
+    → mayAppend (t .state) (key .fabric) ≡ b
+    → cond b (written key (withEntries (append key time ext) t)) (upsertedOf insufficientSpace t) ≡ upsert key time ext t
+unfolding upsert upsertAt
+may-decide key time ext t e m =
+    ap (λ (b : Bool). cond b (written key (withEntries (append key time ext) t)) (upsertedOf insufficientSpace t)) (sym m)
+    ∙ ap (λ (f : Found). upsertAt f key time ext t) (sym e)
+
+-- the slots and the records that the code leaves are the definition's
+
+module _ (key : SceneKey) (time : ℕ) (ext : List ℕ) (t : Table) (s : ScenesState) (k tm f r : List ℕ) where
+  pub upsert-known : (p : ℕ)
+      → findScene key t ≡ At p
+      → slotsOf k tm f ≡ putSlot p (wordOf key) time ext (t .slots)
+      → currentOf s r ≡ invalidateCurrent (Scene key) (currentOf (t .state) (t .records))
+      → upsertedOf success (tableOf s k tm f r) ≡ upsert key time ext t
+  unfolding upsert upsertAt putAt
+  upsert-known p e e1 e2 = rw e (λ i. upsertedOf success (record { state = e2 i .state; slots = e1 i; records = e2 i .records }))
+
+  pub upsert-new :
+      findScene key t ≡ Nothing
+      → mayAppend (t .state) (key .fabric) ≡ true
+      → slotsOf k tm f ≡ putSlot (t .state .entries) (wordOf key) time ext (t .slots)
+      → currentOf s r ≡ invalidateCurrent (Scene key) (currentOf (withEntryCount (t .state .entries + 1) (t .state)) (t .records))
+      → upsertedOf success (tableOf s k tm f r) ≡ upsert key time ext t
+  unfolding upsert upsertAt append
+  upsert-new e m e1 e2 =
+      (λ i. upsertedOf success (record { state = e2 i .state; slots = e1 i; records = e2 i .records }))
+      ∙ may-decide key time ext t e m
+
+-- an upsert keeps the size and how many records there are
+pub record SameHead (t : Table) (u : Upserted) : Type 0 where
+  pub recorded : u .table .state .recorded ≡ t .state .recorded
+  pub size : u .table .state .size ≡ t .state .size
+
+at-head : (f : Found) (key : SceneKey) (time : ℕ) (ext : List ℕ) (t : Table) → SameHead t (upsertAt f key time ext t)
+unfolding upsertAt putAt append invalidateCurrent
+at-head (At p) key time ext t = record { recorded = refl; size = refl }
+at-head Nothing key time ext t =
+    elim (mayAppend (t .state) (key .fabric)) as (λ b. SameHead t (cond b (written key (withEntries (append key time ext) t)) (upsertedOf insufficientSpace t))) [
+      | true ↦ record { recorded = refl; size = refl }
+      | false ↦ record { recorded = refl; size = refl }
+    ]
+
+pub upserted-head : (key : SceneKey) (time : ℕ) (ext : List ℕ) (t : Table) (u : Upserted) → u ≡ upsert key time ext t → SameHead t u
+unfolding upsert
+upserted-head key time ext t u e = subst⁻¹ (SameHead t) e (at-head (findScene key t) key time ext t)

@@ -1,0 +1,5 @@
+-- `Laws` has the laws of the definitions that callers cite, `Guard` those of a call's refusal, and `Changes` those that take what an
+-- operation left to what a definition says of the table.
+pub mod Laws
+pub mod Guard
+pub mod Changes
