@@ -82,7 +82,14 @@ pub(crate) struct LentMut<'a> {
 }
 
 extern "C" {
+    fn scenes_version() -> u32;
     fn scenes_new(size: usize) -> State;
+}
+
+/// The version of the library.
+pub(crate) fn version() -> u32 {
+    // SAFETY: nothing goes in, and any number is a version.
+    unsafe { scenes_version() }
 }
 
 /// The head of an empty table.

@@ -3,6 +3,18 @@ use crate::answers::{Done, Error, InfoRow, Scene, SceneList};
 use crate::ffi::{self, Lent, LentMut, Outcome, SceneRead, State};
 use crate::requests::{Applied, CopyRequest, GroupKey, Membership, SceneKey, Transition};
 
+/// The version of the interface that this crate is for. It steps whenever a struct, an answer or a call of the library changes.
+pub const VERSION: u32 = 2;
+
+/// The version of the library that was linked: [`VERSION`], unless the crate was linked with another's.
+///
+/// ```
+/// assert_eq!(scenes::library_version(), scenes::VERSION);
+/// ```
+pub fn library_version() -> u32 {
+    ffi::version()
+}
+
 /// The largest table.
 pub const MAX_SCENES: usize = 1024;
 
