@@ -49,9 +49,14 @@
 #endif
 #ifdef __GNUC__
 #define SCENES_NONNULL __attribute__((nonnull))
-#define SCENES_RESTRICT __restrict
 #else
 #define SCENES_NONNULL
+#endif
+#ifndef __cplusplus
+#define SCENES_RESTRICT restrict
+#elif defined(__GNUC__)
+#define SCENES_RESTRICT __restrict
+#else
 #define SCENES_RESTRICT
 #endif
 
@@ -373,8 +378,8 @@ static inline struct scenes_outcome scenes_table_keep(struct scenes_table *table
 }
 
 /* An empty table in the host's arrays. For a saved one set `state` to the saved head, and ask scenes_table_is_sound. */
-SCENES_KEEP static inline struct scenes_table scenes_table_new(size_t places, uint64_t *keys, uint32_t *times, uint8_t *fields,
-                                                               uint64_t *records) {
+SCENES_KEEP SCENES_NONNULL static inline struct scenes_table scenes_table_new(size_t places, uint64_t *keys, uint32_t *times,
+                                                                              uint8_t *fields, uint64_t *records) {
     struct scenes_table table;
     table.state = scenes_new(places);
     table.places = places;
