@@ -43,12 +43,15 @@ static void writes(void) {
 
 static void scene_reads(void) {
     struct scenes_scene_read view = scenes_table_view(&table, second, YES);
-    EXPECT(view.status == SCENES_SUCCESS && view.time == 0 && view.at == 1 && view.state.dataver == 2);
+    EXPECT(view.status == SCENES_SUCCESS && view.time == 0 && view.at == 1 && view.len == 5 && view.state.dataver == 2);
+    EXPECT(scenes_table_found(&table, view) == fields + SCENES_STRIDE + 1);
     view = scenes_table_view(&table, second, NO);
-    EXPECT(view.status == SCENES_INVALID_COMMAND && view.time == 0 && view.at == SCENES_NO_POSITION);
+    EXPECT(view.status == SCENES_INVALID_COMMAND && view.time == 0 && view.at == SCENES_NO_POSITION && view.len == 0);
+    EXPECT(scenes_table_found(&table, view) == fields);
     EXPECT(scenes_state_equal(view.state, table.state));
     EXPECT(scenes_table_recall_lookup(&table, first, YES, SCENES_GIVEN_NO, 0x89ABCDEF).time == 1234567);
-    EXPECT(scenes_table_recall_lookup(&table, first, YES, SCENES_GIVEN_YES, 0x89ABCDEF).time == 0x89ABCDEF);
+    view = scenes_table_recall_lookup(&table, first, YES, SCENES_GIVEN_YES, 0x89ABCDEF);
+    EXPECT(view.time == 0x89ABCDEF && view.at == 0 && view.len == 3);
     struct scenes_field_place bytes = scenes_table_field_bytes(&table, 1);
     EXPECT(bytes.offset == SCENES_STRIDE + 1 && bytes.len == 5);
     bytes = scenes_table_field_bytes(&table, 2);

@@ -22,9 +22,9 @@ static int failed(const char *what, uint8_t status) {
 }
 
 /* Whether the scene's fields are the captured bytes with the end of their container. */
-static bool holds(const struct scenes_table *table, size_t at, const uint8_t *captured, size_t len) {
-    struct scenes_field_place found = scenes_table_field_bytes(table, at);
-    return found.len == len + 1 && memcmp(fields + found.offset, captured, len) == 0 && fields[found.offset + len] == 0x18;
+static bool holds(const struct scenes_table *table, struct scenes_scene_read read, const uint8_t *captured, size_t len) {
+    const uint8_t *found = scenes_table_found(table, read);
+    return read.len == len + 1 && memcmp(found, captured, len) == 0 && found[len] == 0x18;
 }
 
 int main(void) {
@@ -40,7 +40,7 @@ int main(void) {
             return failed("A scene could not be stored.", stored.status);
     }
     struct scenes_scene_read before = scenes_table_view(&table, scene_of(OWNER), SCENES_MEMBER_YES);
-    if (before.status != SCENES_SUCCESS || !holds(&table, before.at, captured, sizeof captured))
+    if (before.status != SCENES_SUCCESS || !holds(&table, before, captured, sizeof captured))
         return failed("A stored scene could not be read.", before.status);
 
     struct scenes_outcome removed = scenes_table_remove_fabric(&table, OWNER);
@@ -52,7 +52,7 @@ int main(void) {
     if (after.status != SCENES_NOT_FOUND || info.status != SCENES_SUCCESS || info.present || table.state.entries != 1 || table.state.recorded != 1)
         return failed("Something of the removed owner is left in the table.", after.status);
     struct scenes_scene_read kept = scenes_table_view(&table, scene_of(OTHER), SCENES_MEMBER_YES);
-    if (kept.status != SCENES_SUCCESS || !holds(&table, kept.at, captured, sizeof captured) || !scenes_table_is_sound(&table))
+    if (kept.status != SCENES_SUCCESS || !holds(&table, kept, captured, sizeof captured) || !scenes_table_is_sound(&table))
         return failed("The other owner's scene was lost.", kept.status);
 
     puts("Release check passed: two owners stored a scene each, one owner was removed, nothing of hers is left, and the other's scene is as it was.");

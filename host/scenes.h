@@ -167,12 +167,14 @@ struct scenes_outcome {
     bool save;
 };
 
-/* A scene's time, and its position, for scenes_field_bytes. A refusal has time 0 and position SCENES_NO_POSITION. */
+/* A scene's time, its position and how many field bytes it has: they stand from `fields + at * SCENES_STRIDE + 1` on. A refusal has time 0,
+ * position SCENES_NO_POSITION and length 0. */
 struct scenes_scene_read {
     struct scenes_state state;
     uint8_t status;
     uint32_t time;
     size_t at;
+    size_t len;
 };
 
 /* The remaining capacity, and how many scene ids were written. A refused list has 0 and 0, and the buffer is as it was. */
@@ -223,8 +225,9 @@ SCENES_ASSERT(copy_request, sizeof(struct scenes_copy_request) == 14 && offsetof
                                 offsetof(struct scenes_copy_request, from) == 6 && offsetof(struct scenes_copy_request, to) == 10);
 SCENES_ASSERT(outcome, sizeof(struct scenes_outcome) == 40 && offsetof(struct scenes_outcome, status) == 32 &&
                            offsetof(struct scenes_outcome, save) == 33);
-SCENES_ASSERT(scene_read, sizeof(struct scenes_scene_read) == 48 && offsetof(struct scenes_scene_read, status) == 32 &&
-                              offsetof(struct scenes_scene_read, time) == 36 && offsetof(struct scenes_scene_read, at) == 40);
+SCENES_ASSERT(scene_read, sizeof(struct scenes_scene_read) == 56 && offsetof(struct scenes_scene_read, status) == 32 &&
+                              offsetof(struct scenes_scene_read, time) == 36 && offsetof(struct scenes_scene_read, at) == 40 &&
+                              offsetof(struct scenes_scene_read, len) == 48);
 SCENES_ASSERT(list_read, sizeof(struct scenes_list_read) == 48 && offsetof(struct scenes_list_read, status) == 32 &&
                              offsetof(struct scenes_list_read, remaining) == 33 && offsetof(struct scenes_list_read, len) == 40);
 SCENES_ASSERT(info_read, sizeof(struct scenes_info_read) == 48 && offsetof(struct scenes_info_read, status) == 32 &&
@@ -262,10 +265,10 @@ SCENES_KEEP struct scenes_outcome scenes_add(SCENES_WRITE, struct scenes_key key
 SCENES_KEEP struct scenes_outcome scenes_store(SCENES_WRITE, struct scenes_key key, uint8_t member,
                                                const uint8_t *SCENES_RESTRICT captured, size_t captured_len) SCENES_NONNULL;
 
-/* A scene's time and position. Answers 6, 1, 0x87, 2 or 0x85, 0x8B, 0. */
+/* A scene's time, position and length. Answers 6, 1, 0x87, 2 or 0x85, 0x8B, 0. */
 SCENES_KEEP struct scenes_scene_read scenes_view(SCENES_READ, struct scenes_key key, uint8_t member) SCENES_NONNULL;
 
-/* What a recall applies, before scenes_recall ends it: the scene's position, and its time, or `time` where `given` is not 0.
+/* What a recall applies, before scenes_recall ends it: the scene's position and length, and its time, or `time` where `given` is not 0.
  * Answers as a view. */
 SCENES_KEEP struct scenes_scene_read scenes_recall_lookup(SCENES_READ, struct scenes_key key, uint8_t member, uint8_t given,
                                                           uint32_t time) SCENES_NONNULL;
@@ -415,6 +418,11 @@ SCENES_KEEP static inline struct scenes_scene_read scenes_table_view(const struc
 SCENES_KEEP static inline struct scenes_scene_read scenes_table_recall_lookup(const struct scenes_table *t, struct scenes_key key,
                                                                               uint8_t member, uint8_t given, uint32_t time) {
     return scenes_recall_lookup(SCENES_LENT(t), key, member, given, time);
+}
+
+/* The field bytes that a view or a lookup found, `read.len` of them; they hold until the table is next written. */
+static inline const uint8_t *scenes_table_found(const struct scenes_table *t, struct scenes_scene_read read) {
+    return t->fields + (read.status == SCENES_SUCCESS ? read.at * SCENES_STRIDE + 1 : 0);
 }
 
 SCENES_KEEP static inline struct scenes_outcome scenes_table_recall(struct scenes_table *t, struct scenes_key key, uint8_t member,

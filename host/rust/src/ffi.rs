@@ -32,6 +32,7 @@ pub(crate) struct SceneRead {
     pub status: u8,
     pub time: u32,
     pub at: usize,
+    pub len: usize,
 }
 
 #[repr(C)]

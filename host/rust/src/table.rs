@@ -404,6 +404,7 @@ impl<const N: usize> Scenes<N> {
         if read.status != 0 {
             return Err(Error::of(read.status));
         }
-        Ok(Scene { time: read.time, at: read.at, fields: self.field_bytes(read.at) })
+        let bytes = self.image.fields.get(read.at).and_then(|entry| entry[1..].get(..read.len));
+        Ok(Scene { time: read.time, at: read.at, fields: bytes.unwrap_or(&[]) })
     }
 }
