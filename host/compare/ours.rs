@@ -65,8 +65,9 @@ impl Side for Ours {
     }
     fn view_fields(&mut self, key: SceneKey) -> u8 {
         let read = ffi::view(self.now.state, self.lent(), key, YES);
-        let found = ffi::field_bytes(self.now.state, self.lent(), read.at);
-        self.ids[..found.len].copy_from_slice(&self.now.fields[found.offset..][..found.len]);
+        if read.status == 0 {
+            self.ids[..read.len].copy_from_slice(&self.now.fields[read.at * STRIDE + 1..][..read.len]);
+        }
         read.status
     }
     fn remove(&mut self, key: SceneKey) -> u8 {

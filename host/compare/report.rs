@@ -18,10 +18,10 @@ Each cell has ours, the Rust's, and their ratio: below 1 ours is faster. A numbe
 answer. A time is the median of 4,025 single calls, less that of a call that does nothing, in the least disturbed of 15 passes; the sides take
 turns. The table is in the cache.
 
-Ours: the call as a host makes it through the static library, with the test that the whole table is sound. A recall is two calls, and so
-is a view whose fields are copied. The Rust: the handler of the published scenes.rs, compiled with the driver, without a soundness test.
-Neither side has TLV, but for the walk of a recalled scene's fields, which ends at once here. Left out on both sides: saving (the
-Rust's storage writes nothing), the host's answers (always yes), applying.
+Ours: the call as a host makes it through the static library, with the test that the whole table is sound. A recall is two calls; a view
+hands over position and length of the fields, which are then copied. The Rust: the handler of the published scenes.rs, compiled with the driver,
+without a soundness test. Neither side has TLV, but for the walk of a recalled scene's fields, which ends at once here. Left out on both sides:
+saving (the Rust's storage writes nothing), the host's answers (always yes), applying.
 
 A table has four fabrics with four groups each on one endpoint, a current scene for each fabric, and 16 field bytes in each scene. On an
 empty table an overwrite, a store and the views find nothing.";

@@ -22,7 +22,7 @@ ghost use Rattle.copies.specs.Copy.{copyScene};
 ghost use Rattle.reads.specs.Reads.{viewScene, recallLookup, listedOf, getSceneMembership, readFabricSceneInfo};
 ghost use Rattle.lifecycle.specs.Lifecycle.{scenableAttributeChanged, removeForFabric, factoryReset, startup, failSafe};
 ghost use Rattle.requests.specs.Requests.{membershipOf};
-ghost use Rattle.host.specs.Numbers.{appliedOf, transitionOf, truthOf};
+ghost use Rattle.host.specs.Numbers.{interfaceVersion, appliedOf, transitionOf, truthOf};
 ghost use Rattle.host.specs.Fields.{fieldPlace};
 
 // Where field bytes lie in the lent field slice.
@@ -30,6 +30,13 @@ ghost use Rattle.host.specs.Fields.{fieldPlace};
 pub struct FieldBytes {
     pub offset: usize,
     pub len: usize,
+}
+
+// What a host is compiled for: a change of a struct, an answer or a call of the C header steps the version, here and there.
+pub struct Interface;
+
+impl Interface {
+    pub const VERSION: u32 = 2;
 }
 
 // Whether the host applied a recalled scene: 1 is yes, any other number is no.
@@ -60,6 +67,14 @@ fn truth(answer: u8) -> bool
         return false;
     }
     true
+}
+
+// The version of the interface that the library has, for a host that may have been compiled for another.
+#[no_mangle]
+pub extern "C" fn scenes_version() -> u32
+    ensures { λ r. ⌜ r ≡ interfaceVersion ⌝ }
+{
+    Interface::VERSION
 }
 
 // The head of an empty table of `size` places, at data version 0.

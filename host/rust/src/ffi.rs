@@ -32,6 +32,7 @@ pub(crate) struct SceneRead {
     pub status: u8,
     pub time: u32,
     pub at: usize,
+    pub len: usize,
 }
 
 #[repr(C)]
@@ -82,7 +83,14 @@ pub(crate) struct LentMut<'a> {
 }
 
 extern "C" {
+    fn scenes_version() -> u32;
     fn scenes_new(size: usize) -> State;
+}
+
+/// The version of the library.
+pub(crate) fn version() -> u32 {
+    // SAFETY: nothing goes in, and any number is a version.
+    unsafe { scenes_version() }
 }
 
 /// The head of an empty table.

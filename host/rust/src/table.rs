@@ -3,6 +3,18 @@ use crate::answers::{Done, Error, InfoRow, Scene, SceneList};
 use crate::ffi::{self, Lent, LentMut, Outcome, SceneRead, State};
 use crate::requests::{Applied, CopyRequest, GroupKey, Membership, SceneKey, Transition};
 
+/// The version of the interface that this crate is for. It steps whenever a struct, an answer or a call of the library changes.
+pub const VERSION: u32 = 2;
+
+/// The version of the library that was linked: [`VERSION`], unless the crate was linked with another's.
+///
+/// ```
+/// assert_eq!(scenes::library_version(), scenes::VERSION);
+/// ```
+pub fn library_version() -> u32 {
+    ffi::version()
+}
+
 /// The largest table.
 pub const MAX_SCENES: usize = 1024;
 
@@ -392,6 +404,7 @@ impl<const N: usize> Scenes<N> {
         if read.status != 0 {
             return Err(Error::of(read.status));
         }
-        Ok(Scene { time: read.time, at: read.at, fields: self.field_bytes(read.at) })
+        let bytes = self.image.fields.get(read.at).and_then(|entry| entry[1..].get(..read.len));
+        Ok(Scene { time: read.time, at: read.at, fields: bytes.unwrap_or(&[]) })
     }
 }

@@ -19,8 +19,8 @@ fn layouts_are_those_of_the_header() {
     assert_eq!((size_of::<Outcome>(), offset_of!(Outcome, status), offset_of!(Outcome, save)), (40, 32, 33));
     assert_eq!((offset_of!(Outcome, state), offset_of!(SceneRead, state)), (0, 0));
     assert_eq!((offset_of!(ListRead, state), offset_of!(InfoRead, state)), (0, 0));
-    assert_eq!((size_of::<SceneRead>(), offset_of!(SceneRead, status), offset_of!(SceneRead, time)), (48, 32, 36));
-    assert_eq!((offset_of!(SceneRead, at), offset_of!(ListRead, len)), (40, 40));
+    assert_eq!((size_of::<SceneRead>(), offset_of!(SceneRead, status), offset_of!(SceneRead, time)), (56, 32, 36));
+    assert_eq!((offset_of!(SceneRead, at), offset_of!(SceneRead, len), offset_of!(ListRead, len)), (40, 48, 40));
     assert_eq!((size_of::<ListRead>(), offset_of!(ListRead, status), offset_of!(ListRead, remaining)), (48, 32, 33));
     assert_eq!((size_of::<InfoRead>(), offset_of!(InfoRead, status), offset_of!(InfoRead, present)), (48, 32, 33));
     assert_eq!((offset_of!(InfoRead, count), offset_of!(InfoRead, group), offset_of!(InfoRead, scene)), (34, 36, 38));
@@ -61,10 +61,25 @@ fn the_head_comes_back_whole() {
     let mut table = two();
     table.image.dataver = u32::MAX;
     let read = ffi::view(table.state(), table.lent(), SceneKey { fabric: 9, endpoint: 9, group: 0, scene: 9 }, 1);
-    assert_eq!((read.status, read.time, read.at), (0x8B, 0, MAX_SCENES));
+    assert_eq!((read.status, read.time, read.at, read.len), (0x8B, 0, MAX_SCENES, 0));
     assert_eq!(read.state, State { size: 16, entries: 2, recorded: 1, dataver: u32::MAX });
     assert!(table.factory_reset().is_ok());
     assert_eq!(table.state(), State { size: 16, entries: 0, recorded: 0, dataver: 0 });
+}
+
+// The length that a view and a lookup hand over is that of the field bytes at their position.
+#[test]
+fn lengths_of_fields_arrive() {
+    let table = two();
+    let first = SceneKey { fabric: 0x12, endpoint: 0x3456, group: 0x789A, scene: 0xBC };
+    let second = SceneKey { fabric: 0x34, endpoint: 0x5678, group: 0x9ABC, scene: 0xDE };
+    for (key, at, len) in [(first, 0, 4), (second, 1, MAX_FIELDS)] {
+        let view = ffi::view(table.state(), table.lent(), key, 1);
+        let lookup = ffi::recall_lookup(table.state(), table.lent(), key, 1, 0, 0);
+        assert_eq!((view.at, view.len), (at, len));
+        assert_eq!((lookup.at, lookup.len), (at, len));
+        assert_eq!(table.view(key, Membership::Yes).map(|scene| scene.fields), Ok(table.field_bytes(at)));
+    }
 }
 
 #[test]
