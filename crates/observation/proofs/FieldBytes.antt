@@ -1,17 +1,19 @@
 -- The field bytes at the position that a view or a recall's lookup answers are those of the scene that was asked for, and none where it
--- was refused. Assumes nothing.
-use Prim.Native.Nat.{ℕ, _<_}
-use mathlib.Core.Path.{_≡_, refl, subst}
+-- was refused, and they are as many as it says. Assumes nothing.
+use Prim.Native.Nat.{ℕ, _+_, _*_, _<_}
+use mathlib.Core.Path.{_≡_, refl, sym, ap, subst}
 use mathlib.Core.Bool.{true, false, cond, _&&_}
 use mathlib.Core.List.{[]}
 use native.Mathlib.Omega.{arith}
 use lib.Dec.{eqb, ltb}
+use lib.ListN.{length}
 use borrow.Author.Tests.{lt-ltb, le-ltb, eqb-true, eqb-false}
-use Rattle.words.specs.Constants.{success, notFound, maxScenes}
+use Rattle.words.specs.Constants.{success, notFound, maxScenes, stride}
 use Rattle.words.specs.declared.Found.the-variants.{At, Nothing}
 use Rattle.words.specs.Words.{wordOf}
 use Rattle.words.specs.declared.SceneKey.{SceneKey}
-use Rattle.slots.specs.Slots.{fieldsAt}
+use Rattle.slots.specs.Slots.{lengthAt, fieldsAt}
+use Rattle.slots.proofs.Laws.{length-part}
 use Rattle.requests.specs.declared.Membership.{Membership}
 use Rattle.requests.specs.Requests.{lookupGate}
 use Rattle.reads.specs.declared.Transition.{Transition}
@@ -21,7 +23,7 @@ use Rattle.state.specs.Sound.{sound}
 use Rattle.state.specs.Change.{findScene}
 use Rattle.state.specs.Answer.{refusalOf, guarded}
 use Rattle.reads.specs.Reads.{unread, readAt, recallLookup, viewScene, fieldBytes}
-use Rattle.state.proofs.Laws.{sound-bounds, found-under}
+use Rattle.state.proofs.Laws.{sound-bounds, sound-length, found-under}
 use Rattle.state.proofs.Guard.{when-refused, when-passed, passed-sound}
 use Rattle.observation.specs.FieldBytes.{Tied}
 
@@ -35,7 +37,14 @@ past t =
     ]) refl
 
 refused-tied : (key : SceneKey) (t : Table) (n : ℕ) → (n ≡ success → ⊥) → Tied key t (unread t n)
-refused-tied key t n h = record { found = λ e. absurd (h e); fields = λ e. absurd (h e); nothing = λ _. past t }
+refused-tied key t n h = record { found = λ e. absurd (h e); fields = λ e. absurd (h e); nothing = λ _. past t; size = ap length (sym (past t)) }
+
+-- as many as the length byte says
+field-count : (t : Table) (p : ℕ) → sound t ≡ true → p < t .state .entries → lengthAt (t .slots .fields) p ≡ length (fieldsAt (t .slots .fields) p)
+field-count t p sd l =
+    let b = sound-bounds t sd in
+    let m = sound-length t p sd l in
+    sym (length-part (t .slots .fields) (p * stride + 1) (lengthAt (t .slots .fields) p) (omega arith))
 
 read-tied : (key : SceneKey) (t : Table) (o : Transition) → sound t ≡ true → Tied key t (readAt (findScene key t) o t)
 unfolding readAt fieldBytes
@@ -43,7 +52,12 @@ read-tied key t o sd =
     (elim (findScene key t) as (λ f. findScene key t ≡ f → Tied key t (readAt f o t)) [
       | At p ↦ λ e.
           let l : p < t .state .entries = found-under (t .slots .keys) (t .state .entries) (wordOf key) p e in
-          record { found = λ _. e; fields = λ _. rw (sd, lt-ltb p (t .state .entries) l); nothing = λ h. absurd (h refl) }
+          record {
+            found = λ _. e;
+            fields = λ _. rw (sd, lt-ltb p (t .state .entries) l);
+            nothing = λ h. absurd (h refl);
+            size = rw (sd, lt-ltb p (t .state .entries) l) (field-count t p sd l);
+          }
       | Nothing ↦ λ e. refused-tied key t notFound (λ z. omega arith)
     ]) refl
 
