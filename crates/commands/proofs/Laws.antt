@@ -11,20 +11,22 @@ use Rattle.words.specs.declared.GroupKey.{GroupKey}
 use Rattle.records.specs.declared.Scope.the-variants.{Group}
 use Rattle.state.specs.Table.{Table, withCurrent}
 use Rattle.state.specs.Current.{invalidateCurrent, rememberCurrent}
-use Rattle.state.specs.Change.{findScene, Upserted, upsert}
-use Rattle.state.specs.Answer.{resultOf}
+use Rattle.state.specs.Change.{findScene, Upserted, upsertedOf, saved, upsert}
+use Rattle.state.specs.Answer.{Result, resultOf}
 use Rattle.commands.specs.Commands.{priorTime, stored, removedAll}
 
 -- ---- store
 
-module _ (key : SceneKey) (time : ℕ) (ext : List ℕ) (t : Table) (u : Upserted) (e : u ≡ upsert key time ext t) where
-  -- f is what the search found, from which the time comes
-  pub upserted-prior : (f : Found) (stored : List ℕ)
-      → time ≡ priorTime f (t .slots .times)
-      → f ≡ findScene key t
-      → ext ≡ stored
-      → u ≡ upsert key (priorTime (findScene key t) (t .slots .times)) stored t
-  upserted-prior f stored e1 e2 e3 = e ∙ (λ i. upsert key ((e1 ∙ ap (λ (x : Found). priorTime x (t .slots .times)) e2) i) (e3 i) t)
+-- u is what the upsert answered, with its mark; f is what the search found, from which the time comes
+pub upserted-prior : (key : SceneKey) (time : ℕ) (ext : List ℕ) (t : Table) (u : Result) (f : Found) (stored : List ℕ)
+    → u ≡ saved (upsert key time ext t)
+    → time ≡ priorTime f (t .slots .times)
+    → f ≡ findScene key t
+    → ext ≡ stored
+    → upsertedOf (u .status) (u .table) ≡ upsert key (priorTime (findScene key t) (t .slots .times)) stored t
+upserted-prior key time ext t u f stored e e1 e2 e3 =
+    (λ i. upsertedOf (e i .status) (e i .table))
+    ∙ (λ i. upsert key ((e1 ∙ ap (λ (x : Found). priorTime x (t .slots .times)) e2) i) (e3 i) t)
 
 module _ (key : SceneKey) (u : Upserted) where
   pub not-stored : (u .status ≡ success → ⊥) → resultOf (u .status) false (u .table) ≡ stored key u

@@ -1,4 +1,4 @@
--- From what the called operations answer to what the definition of an info read says. Assumes nothing.
+-- From what the called operations answer to what the definitions of a lookup and of an info read say. Assumes nothing.
 use Prim.Native.Nat.{ℕ, min}
 use mathlib.Core.Path.{_≡_, _∙_}
 use mathlib.Core.Bool.{Bool, true, false}
@@ -8,10 +8,19 @@ use Rattle.words.specs.Constants.{success, maxShown}
 use Rattle.words.specs.Words.{groupOf, sceneOf, keyOfRecord, isValid}
 use Rattle.words.specs.declared.Found.{Found}
 use Rattle.words.specs.declared.Found.the-variants.{At, Nothing}
+use Rattle.slots.specs.Slots.{lengthAt}
 use Rattle.state.specs.Table.{Table}
 use Rattle.state.specs.Capacity.{remaining}
 use Rattle.reads.specs.declared.InfoRead.{InfoRead}
-use Rattle.reads.specs.Reads.{noRow, infoRow}
+use Rattle.reads.specs.declared.Transition.{Transition}
+use Rattle.reads.specs.Reads.{effectiveTime, readAt, noRow, infoRow}
+
+-- a scene that was found, n is its effective time
+pub read-found : (t : Table) (p n : ℕ) (o : Transition)
+    → n ≡ effectiveTime o (getD (t .slots .times) p 0)
+    → record { status = success; time = n; at = p; len = lengthAt (t .slots .fields) p; state = t .state } ≡ readAt (At p) o t
+unfolding readAt
+read-found t p n o e = λ i. record { status = success; time = e i; at = p; len = lengthAt (t .slots .fields) p; state = t .state }
 
 -- f is the fabric's record and m how many entries it has on the endpoint; n is what the code counted
 

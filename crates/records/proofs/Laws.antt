@@ -42,17 +42,17 @@ found-under l n fabric endpoint p e = first-under _ n p e .0
 
 module _ (key : SceneKey) (size n : ℕ) (l : List ℕ) where
   -- over the record that was found
-  pub remember-over : (p : ℕ) → firstOwned l n (key .fabric) (key .endpoint) ≡ At p → remember key size (recordsOf n l) ≡ recordsOf n (set l p (validRecord key))
+  pub remember-over : (p : ℕ) → firstOwned l n (key .fabric) (key .endpoint) ≡ At p → recordsOf n (set l p (validRecord key)) ≡ remember key size (recordsOf n l)
   unfolding remember rememberAt
   remember-over p e = rw e
 
   -- behind the others
-  pub remember-behind : firstOwned l n (key .fabric) (key .endpoint) ≡ Nothing → n < size → remember key size (recordsOf n l) ≡ recordsOf (n + 1) (set l n (validRecord key))
+  pub remember-behind : firstOwned l n (key .fabric) (key .endpoint) ≡ Nothing → n < size → recordsOf (n + 1) (set l n (validRecord key)) ≡ remember key size (recordsOf n l)
   unfolding remember rememberAt
   remember-behind e h = rw (e, lt-ltb n size h)
 
   -- the others fill the size
-  pub remember-dropped : firstOwned l n (key .fabric) (key .endpoint) ≡ Nothing → size ≤ n → remember key size (recordsOf n l) ≡ recordsOf n l
+  pub remember-dropped : firstOwned l n (key .fabric) (key .endpoint) ≡ Nothing → size ≤ n → recordsOf n l ≡ remember key size (recordsOf n l)
   unfolding remember rememberAt
   remember-dropped e h = rw (e, le-ltb n size h)
 

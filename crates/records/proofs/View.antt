@@ -1,6 +1,6 @@
 -- What each change leaves of the first n record words, `take n records`, and of a word's soundness, for callers. Assumes nothing.
 use Prim.Native.Nat.{ℕ, zero, suc, _+_, _^_, _≤_, _<_}
-use mathlib.Core.Path.{_≡_, refl, ap, _∙_}
+use mathlib.Core.Path.{_≡_, refl, sym, ap, _∙_}
 use mathlib.Core.Bool.{true, false, cond}
 use mathlib.Core.List.{List, [], _∷_, _++_, map}
 use native.Mathlib.Numerals.{add-one}
@@ -82,18 +82,18 @@ module _ (key : SceneKey) (size n : ℕ) (l : List ℕ) where
   pub over-view : (p : ℕ) → firstOwned l n (key .fabric) (key .endpoint) ≡ At p → inUse (remember key size (recordsOf n l)) ≡ set (take n l) p (validRecord key)
   over-view p e =
       let h : p < n = found-under l n (key .fabric) (key .endpoint) p e in
-      ap inUse (remember-over key size n l p e) ∙ take-set-lt n l p (validRecord key) h
+      ap inUse (sym (remember-over key size n l p e)) ∙ take-set-lt n l p (validRecord key) h
 
   -- the new record is the last
   pub behind-view : firstOwned l n (key .fabric) (key .endpoint) ≡ Nothing → n < size → size ≤ length l → inUse (remember key size (recordsOf n l)) ≡ take n l ++ (validRecord key ∷ [])
   behind-view e h k =
-      ap inUse (remember-behind key size n l e h)
+      ap inUse (sym (remember-behind key size n l e h))
       ∙ ap (λ (m : ℕ). take m (set l n (validRecord key))) (add-one n)
       ∙ take-suc-set l n (validRecord key) (omega arith)
 
   -- nothing changes
   pub dropped-view : firstOwned l n (key .fabric) (key .endpoint) ≡ Nothing → size ≤ n → inUse (remember key size (recordsOf n l)) ≡ take n l
-  dropped-view e h = ap inUse (remember-dropped key size n l e h)
+  dropped-view e h = ap inUse (sym (remember-dropped key size n l e h))
 
 -- ---- invalidating
 

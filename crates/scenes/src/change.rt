@@ -6,7 +6,6 @@ use copies::Copies;
 use requests::CopyRequest;
 use requests::Membership;
 use state::Outcome;
-use words::Fault;
 use words::GroupKey;
 use words::SceneKey;
 ghost use mathlib.Core.Path.{_≡_};
@@ -48,7 +47,7 @@ impl ScenesHandler {
                 ext,
             );
         }
-        Outcome::unsaved(Fault::UNSOUND, state)
+        self.unsound()
     }
 
     // Stores captured bytes as a scene, and remembers it as the fabric's current one.
@@ -79,7 +78,7 @@ impl ScenesHandler {
                 captured,
             );
         }
-        Outcome::unsaved(Fault::UNSOUND, state)
+        self.unsound()
     }
 
     // Removes a scene: the last entry takes its place.
@@ -101,7 +100,7 @@ impl ScenesHandler {
         if state.is_sound(keys, times, fields, records) {
             return Commands { state }.remove_scene(keys, times, fields, records, key, member);
         }
-        Outcome::unsaved(Fault::UNSOUND, state)
+        self.unsound()
     }
 
     // Removes all scenes of a group on an endpoint.
@@ -123,7 +122,7 @@ impl ScenesHandler {
         if state.is_sound(keys, times, fields, records) {
             return Commands { state }.remove_all_scenes(keys, times, fields, records, key, member);
         }
-        Outcome::unsaved(Fault::UNSOUND, state)
+        self.unsound()
     }
 
     // Ends a recall: a scene that the host has applied becomes the fabric's current one.
@@ -154,7 +153,7 @@ impl ScenesHandler {
                 applied,
             );
         }
-        Outcome::unsaved(Fault::UNSOUND, state)
+        self.unsound()
     }
 
     // Copies a scene, or with bit 0 of the mode a whole group.
@@ -185,6 +184,6 @@ impl ScenesHandler {
                 target,
             );
         }
-        Outcome::unsaved(Fault::UNSOUND, state)
+        self.unsound()
     }
 }

@@ -2,7 +2,6 @@
 use crate::ScenesHandler;
 use lifecycle::Lifecycle;
 use state::Outcome;
-use words::Fault;
 ghost use mathlib.Core.Path.{_≡_};
 ghost use Rattle.state.specs.Table.{tableOf};
 ghost use Rattle.state.specs.Answer.{resultOf};
@@ -33,7 +32,7 @@ impl ScenesHandler {
                 endpoint,
             );
         }
-        Outcome::unsaved(Fault::UNSOUND, state)
+        self.unsound()
     }
 
     // A fabric left: its entries and its records go.
@@ -54,7 +53,7 @@ impl ScenesHandler {
         if state.is_sound(keys, times, fields, records) {
             return Lifecycle { state }.remove_for_fabric(keys, times, fields, records, fabric);
         }
-        Outcome::unsaved(Fault::UNSOUND, state)
+        self.unsound()
     }
 
     // A factory reset: an empty table, and a step of the data version. The host drops its image.
@@ -74,7 +73,7 @@ impl ScenesHandler {
         if state.is_sound(keys, times, fields, records) {
             return Lifecycle { state }.factory_reset(keys, times, fields, records);
         }
-        Outcome::unsaved(Fault::UNSOUND, state)
+        self.unsound()
     }
 
     // A startup without a saved table: an empty table at the data version that it had.
@@ -88,7 +87,7 @@ impl ScenesHandler {
         if state.is_sound(keys, times, fields, records) {
             return Lifecycle { state }.startup(keys, times, fields, records);
         }
-        Outcome::unsaved(Fault::UNSOUND, state)
+        self.unsound()
     }
 
     // The fail-safe was committed: nothing changes.
@@ -108,7 +107,7 @@ impl ScenesHandler {
         if state.is_sound(keys, times, fields, records) {
             return Lifecycle { state }.fail_safe_commit(keys, times, fields, records);
         }
-        Outcome::unsaved(Fault::UNSOUND, state)
+        self.unsound()
     }
 
     // The fail-safe expired: nothing changes.
@@ -128,6 +127,6 @@ impl ScenesHandler {
         if state.is_sound(keys, times, fields, records) {
             return Lifecycle { state }.fail_safe_expiry(keys, times, fields, records);
         }
-        Outcome::unsaved(Fault::UNSOUND, state)
+        self.unsound()
     }
 }

@@ -83,26 +83,29 @@ may-decide key time ext t e m =
     ap (λ (b : Bool). cond b (written key (withEntries (append key time ext) t)) (upsertedOf insufficientSpace t)) (sym m)
     ∙ ap (λ (f : Found). upsertAt f key time ext t) (sym e)
 
--- the slots and the records that the code leaves are the definition's
+-- the slots and the records that the code leaves are the definition's; w is the key's word
 
-module _ (key : SceneKey) (time : ℕ) (ext : List ℕ) (t : Table) (s : ScenesState) (k tm f r : List ℕ) where
+module _ (key : SceneKey) (time : ℕ) (ext : List ℕ) (t : Table) (s : ScenesState) (k tm f r : List ℕ) (w : ℕ) (word : w ≡ wordOf key) where
   pub upsert-known : (p : ℕ)
       → findScene key t ≡ At p
-      → slotsOf k tm f ≡ putSlot p (wordOf key) time ext (t .slots)
+      → slotsOf k tm f ≡ putSlot p w time ext (t .slots)
       → currentOf s r ≡ invalidateCurrent (Scene key) (currentOf (t .state) (t .records))
       → upsertedOf success (tableOf s k tm f r) ≡ upsert key time ext t
   unfolding upsert upsertAt putAt
-  upsert-known p e e1 e2 = rw e (λ i. upsertedOf success (record { state = e2 i .state; slots = e1 i; records = e2 i .records }))
+  upsert-known p e e1 e2 =
+      let put : slotsOf k tm f ≡ putSlot p (wordOf key) time ext (t .slots) = rw (← word) e1 in
+      rw e (λ i. upsertedOf success (record { state = e2 i .state; slots = put i; records = e2 i .records }))
 
   pub upsert-new :
       findScene key t ≡ Nothing
       → mayAppend (t .state) (key .fabric) ≡ true
-      → slotsOf k tm f ≡ putSlot (t .state .entries) (wordOf key) time ext (t .slots)
+      → slotsOf k tm f ≡ putSlot (t .state .entries) w time ext (t .slots)
       → currentOf s r ≡ invalidateCurrent (Scene key) (currentOf (withEntryCount (t .state .entries + 1) (t .state)) (t .records))
       → upsertedOf success (tableOf s k tm f r) ≡ upsert key time ext t
   unfolding upsert upsertAt append
   upsert-new e m e1 e2 =
-      (λ i. upsertedOf success (record { state = e2 i .state; slots = e1 i; records = e2 i .records }))
+      let put : slotsOf k tm f ≡ putSlot (t .state .entries) (wordOf key) time ext (t .slots) = rw (← word) e1 in
+      (λ i. upsertedOf success (record { state = e2 i .state; slots = put i; records = e2 i .records }))
       ∙ may-decide key time ext t e m
 
 -- an upsert keeps the size and how many records there are

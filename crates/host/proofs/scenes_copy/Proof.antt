@@ -1,48 +1,35 @@
 -- `host::scenes_copy` meets its contract. Assumes nothing.
 use mathlib.Core.Path.{_∙_}
-use Rattle.state.specs.Table.{tableOf}
+use Rattle.state.specs.Table.{Table, tableOf}
 use Rattle.copies.specs.Copy.{copyScene}
 use borrow.Author.Needs.{needs}
 use Rattle.host.proofs.scenes_copy.Statement.{statement}
 use Rattle.host.proofs.scenes_copy.Tie as tie
 
-of-number-requires : tie.Need-of-number-requires
-of-number-requires c κs = search needs
+-- the places that the proof refers to, and the table that came in
+abbrev start : tie.After-copy-scene → tie.Start
+start c = c .before .before .before .before .before .before .before .before .before .before .before
 
-of-number-requires-2 : tie.Need-of-number-requires-2
-of-number-requires-2 c κs = search needs
+abbrev called : tie.After-slice-known8 → tie.After-copy-scene
+called c = c .before .before .before .before .before .before .before .before
 
-copy-scene-requires : tie.Need-copy-scene-requires
-copy-scene-requires c κs = search needs
-
-same-length : tie.Need-same-length
-same-length c = search needs
-
-same-length-2 : tie.Need-same-length-2
-same-length-2 c = search needs
-
-same-length-3 : tie.Need-same-length-3
-same-length-3 c = search needs
-
-same-length-4 : tie.Need-same-length-4
-same-length-4 c = search needs
+abbrev came : tie.After-copy-scene → Table
+came c = let a = start c .args in tableOf (a .state) (a .keys .now) (a .times .now) (a .fields .now) (a .records .now)
 
 returns : tie.Need-returns
 returns c =
-    let d = c .before .before .before .before .before .before .before .before in
-    let a = d .before .before .before .before .before .before .before .before .before .before .before .args in
-    let t = tableOf (a .state) (a .keys .now) (a .times .now) (a .fields .now) (a .records .now) in
-    d .copy-scene .ensures ∙ (λ i. copyScene (a .request) (d .before .before .of-number .ensures i) (d .before .of-number2 .ensures i) t)
+    called c .copy-scene .ensures
+    ∙ (λ i. copyScene (start (called c) .args .request) (called c .before .before .of-number .ensures i) (called c .before .of-number2 .ensures i) (came (called c)))
 
 pub scenes-copy-spec : {M : Type 1} → statement M
 scenes-copy-spec =
     tie.close
     (tie.spec
-    of-number-requires
-    of-number-requires-2
-    copy-scene-requires
-    same-length
-    same-length-2
-    same-length-3
-    same-length-4
+    (λ c κs. search needs)
+    (λ c κs. search needs)
+    (λ c κs. search needs)
+    (λ c. search needs)
+    (λ c. search needs)
+    (λ c. search needs)
+    (λ c. search needs)
     returns)

@@ -1,31 +1,32 @@
 -- `host::scenes_recall` meets its contract. Assumes nothing.
 use mathlib.Core.Path.{_∙_}
-use Rattle.state.specs.Table.{tableOf}
+use Rattle.state.specs.Table.{Table, tableOf}
 use Rattle.commands.specs.Commands.{recallScene}
 use borrow.Author.Needs.{needs}
 use Rattle.host.proofs.scenes_recall.Statement.{statement}
 use Rattle.host.proofs.scenes_recall.Tie as tie
 
-of-number-requires : tie.Need-of-number-requires
-of-number-requires c κs = search needs
+-- the places that the proof refers to, and the table that came in
+abbrev start : tie.After-recall-scene → tie.Start
+start c = c .before .before .before .before .before .before .before .before
 
-application-requires : tie.Need-application-requires
-application-requires c κs = search needs
+abbrev called : tie.After-slice-known2 → tie.After-recall-scene
+called c = c .before .before
 
-recall-scene-requires : tie.Need-recall-scene-requires
-recall-scene-requires c κs = search needs
-
-same-length : tie.Need-same-length
-same-length c = search needs
+abbrev came : tie.After-recall-scene → Table
+came c = let a = start c .args in tableOf (a .state) (a .keys .now) (a .times .now) (a .fields .now) (a .records .now)
 
 returns : tie.Need-returns
 returns c =
-    let d = c .before .before in
-    let a = d .before .before .before .before .before .before .before .before .args in
-    let t = tableOf (a .state) (a .keys .now) (a .times .now) (a .fields .now) (a .records .now) in
-    d .recall-scene .ensures ∙ (λ i. recallScene (a .key) (d .before .before .of-number .ensures i) (d .before .application .ensures i) t)
+    called c .recall-scene .ensures
+    ∙ (λ i. recallScene (start (called c) .args .key) (called c .before .before .of-number .ensures i) (called c .before .application .ensures i) (came (called c)))
 
 pub scenes-recall-spec : {M : Type 1} → statement M
 scenes-recall-spec =
     tie.close
-    (tie.spec of-number-requires application-requires recall-scene-requires same-length returns)
+    (tie.spec
+    (λ c κs. search needs)
+    (λ c κs. search needs)
+    (λ c κs. search needs)
+    (λ c. search needs)
+    returns)

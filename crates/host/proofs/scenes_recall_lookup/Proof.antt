@@ -1,26 +1,26 @@
 -- `host::scenes_recall_lookup` meets its contract. Assumes nothing.
 use mathlib.Core.Path.{_∙_}
-use Rattle.state.specs.Table.{tableOf}
+use Rattle.state.specs.Table.{Table, tableOf}
 use Rattle.reads.specs.Reads.{recallLookup}
 use borrow.Author.Needs.{needs}
 use Rattle.host.proofs.scenes_recall_lookup.Statement.{statement}
 use Rattle.host.proofs.scenes_recall_lookup.Tie as tie
 
-of-number-requires : tie.Need-of-number-requires
-of-number-requires c κs = search needs
+-- the places that the proof refers to, and the table that came in
+abbrev start : tie.After-recall-lookup → tie.Start
+start c = c .before .before .before .before .before .before .before
 
-transition-requires : tie.Need-transition-requires
-transition-requires c κs = search needs
-
-recall-lookup-requires : tie.Need-recall-lookup-requires
-recall-lookup-requires c κs = search needs
+abbrev came : tie.After-recall-lookup → Table
+came c = let a = start c .args in tableOf (a .state) (a .keys .now) (a .times .now) (a .fields .now) (a .records .now)
 
 returns : tie.Need-returns
-returns c =
-    let a = c .before .before .before .before .before .before .before .args in
-    let t = tableOf (a .state) (a .keys .now) (a .times .now) (a .fields .now) (a .records .now) in
-    c .recall-lookup .ensures ∙ (λ i. recallLookup (a .key) (c .before .before .of-number .ensures i) (c .before .transition .ensures i) t)
+returns c = c .recall-lookup .ensures ∙ (λ i. recallLookup (start c .args .key) (c .before .before .of-number .ensures i) (c .before .transition .ensures i) (came c))
 
 pub scenes-recall-lookup-spec : {M : Type 1} → statement M
 scenes-recall-lookup-spec =
-    tie.close (tie.spec of-number-requires transition-requires recall-lookup-requires returns)
+    tie.close
+    (tie.spec
+    (λ c κs. search needs)
+    (λ c κs. search needs)
+    (λ c κs. search needs)
+    returns)

@@ -1,91 +1,84 @@
 -- `records::remember` meets its contract: over the record found, behind the others, or dropped. Assumes nothing.
 use Prim.Native.Nat.{ℕ, _+_, _<_}
-use mathlib.Core.Path.{sym, ap, _∙_}
+use mathlib.Core.Path.{_≡_, sym, ap, _∙_}
 use native.Mathlib.Omega.{arith}
 use borrow.Author.Needs.{needs}
 use lib.ListN.{set}
-use Rattle.records.specs.Records.{recordsOf}
+use Rattle.words.specs.declared.Found.the-variants.{At, Nothing}
+use Rattle.records.specs.Records.{recordsOf, firstOwned}
 use Rattle.records.proofs.Laws.{found-under, remember-over, remember-behind, remember-dropped}
 use Rattle.records.proofs.remember.Statement.{statement}
 use Rattle.records.proofs.remember.Tie as tie
 
-valid-record-requires : tie.Need-valid-record-requires
-valid-record-requires c κs = search needs
+-- the places that the proof refers to, each from a later one
+abbrev start : tie.After-find → tie.Start
+start c = c .before .before .before .before
 
-find-requires : tie.Need-find-requires
-find-requires c κs = search needs
+abbrev spelled : tie.After-find → tie.After-valid-record
+spelled c = c .before .before
 
-enum-known-at : tie.Need-enum-known-at
-enum-known-at c = search needs
+abbrev missed : tie.After-enum-told → tie.After-find
+missed c = c .before .before
 
-enum-told : tie.Need-enum-told
-enum-told c = search needs
+abbrev known : tie.After-known-told → tie.After-find
+known c = c .before .before .before
 
-mul-records : tie.Need-mul-records
-mul-records c = search needs
+abbrev place : tie.After-known-told → ℕ
+place c = c .before .at .given .0 .0
 
-slice-write-records : tie.Need-slice-write-records
-slice-write-records c = search needs
+none : (c : tie.After-enum-told) → (let a = start (missed c) .args in firstOwned (a .records .now) (a .n) (a .key .fabric) (a .key .endpoint) ≡ Nothing)
+none c = sym (missed c .find .ensures) ∙ c .enum-told .given .1
 
-add-result : tie.Need-add-result
-add-result c = search needs
+found : (c : tie.After-known-told) → (let a = start (known c) .args in firstOwned (a .records .now) (a .n) (a .key .fabric) (a .key .endpoint) ≡ At (place c))
+found c = sym (known c .find .ensures) ∙ c .before .at .given .1
 
-same-length : tie.Need-same-length
-same-length c = search needs
+-- the position found is below the count
+under : (c : tie.After-known-told) → place c < start (known c) .args .n
+under c = found-under _ _ _ _ _ (found c)
 
 returns : tie.Need-returns
 returns c =
-    let at = c .before .before .before in
-    let a = at .before .before .before .before .args in
-    ap (λ (word : ℕ). recordsOf (a .n + 1) (set (a .records .now) (a .n) word)) (at .before .before .valid-record .ensures)
-    ∙ sym (remember-behind (a .key) (a .size) (a .n) (a .records .now) (sym (at .find .ensures) ∙ c .before .enum-told .given .1) (c .if1 .taken))
-
-same-length-2 : tie.Need-same-length-2
-same-length-2 c = search needs
+    let f = missed (c .before) in
+    let a = start f .args in
+    _∙_ {a = recordsOf (a .n + 1) (set (a .records .now) (a .n) (spelled f .valid-record .result))}
+    (ap (λ (w : ℕ). recordsOf (a .n + 1) (set (a .records .now) (a .n) w)) (spelled f .valid-record .ensures))
+    (remember-behind (a .key) (a .size) (a .n) (a .records .now) (none (c .before)) (c .if1 .taken))
 
 returns-2 : tie.Need-returns-2
 returns-2 c =
-    let at = c .before .before .before in
-    let a = at .before .before .before .before .args in
-    sym (remember-dropped (a .key) (a .size) (a .n) (a .records .now) (sym (at .find .ensures) ∙ c .before .enum-told .given .1) (c .if1 .left))
-
--- the position found is below the count
-found : (c : tie.After-known-told) → c .before .at .given .0 .0 < c .before .before .before .before .before .before .before .args .n
-found c = found-under _ _ _ _ _ (sym (c .before .before .before .find .ensures) ∙ c .before .at .given .1)
+    let a = start (missed (c .before)) .args in
+    remember-dropped (a .key) (a .size) (a .n) (a .records .now) (none (c .before)) (c .if1 .left)
 
 mul-records-2 : tie.Need-mul-records-2
-mul-records-2 c = omega (arith, found c)
+mul-records-2 c = omega (arith, under c)
 
 slice-write-records-2 : tie.Need-slice-write-records-2
-slice-write-records-2 c = omega (arith, found c)
-
-same-length-3 : tie.Need-same-length-3
-same-length-3 c = search needs
+slice-write-records-2 c = omega (arith, under c)
 
 returns-3 : tie.Need-returns-3
 returns-3 c =
-    let at = c .before .before .before in
-    let a = at .before .before .before .before .args in
-    let p = c .before .at .given .0 .0 in
-    ap (λ (word : ℕ). recordsOf (a .n) (set (a .records .now) p word)) (at .before .before .valid-record .ensures)
-    ∙ sym (remember-over (a .key) (a .size) (a .n) (a .records .now) p (sym (at .find .ensures) ∙ c .before .at .given .1))
+    let f = known c in
+    let a = start f .args in
+    _∙_ {a = recordsOf (a .n) (set (a .records .now) (place c) (spelled f .valid-record .result))}
+    (ap (λ (w : ℕ). recordsOf (a .n) (set (a .records .now) (place c) w)) (spelled f .valid-record .ensures))
+    (remember-over (a .key) (a .size) (a .n) (a .records .now) (place c) (found c))
 
 pub remember-spec : {M : Type 1} → statement M
 remember-spec =
     tie.close
     (tie.spec
-    valid-record-requires
-    find-requires
-    enum-known-at
-    enum-told
-    mul-records
-    slice-write-records
-    add-result
-    same-length
+    (λ c κs. search needs)
+    (λ c κs. search needs)
+    (λ c. search needs)
+    (λ c. search needs)
+    (λ c. search needs)
+    (λ c. search needs)
+    (λ c. search needs)
+    (λ c. search needs)
     returns
-    same-length-2
+    (λ c. search needs)
     returns-2
     mul-records-2
     slice-write-records-2
-    same-length-3
+    (λ c. search needs)
     returns-3)

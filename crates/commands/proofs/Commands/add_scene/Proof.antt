@@ -17,6 +17,9 @@ use Rattle.commands.proofs.Commands.add_scene.Tie as tie
 abbrev start : tie.After-add-gate → tie.Start
 start c = c .before .before .before .before .before .before .before .before
 
+abbrev gated : tie.After-unsaved → tie.After-add-gate
+gated c = c .before .before
+
 abbrev passed : tie.After-word → tie.Else1
 passed c = c .before .before
 
@@ -36,7 +39,7 @@ admitted c = admits _ (start (c .before) .pre) _ _ (c .before .add-gate .ensures
 
 returns : tie.Need-returns
 unfolding addScene
-returns c = let g = c .before .before in refuses-outcome (came g) (start g .pre) _ _ (g .add-gate .ensures) _ _ (c .unsaved .ensures) (c .before .if1 .taken)
+returns c = refuses-outcome (came (gated c)) (start (gated c) .pre) _ _ (gated c .add-gate .ensures) _ _ (c .unsaved .ensures) (c .before .if1 .taken)
 
 find-requires : tie.Need-find-requires
 find-requires c κs = let h = admitted (passed c) .room in omega arith

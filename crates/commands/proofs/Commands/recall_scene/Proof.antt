@@ -21,6 +21,9 @@ use Rattle.commands.proofs.Commands.recall_scene.Tie as tie
 abbrev start : tie.After-lookup-gate → tie.Start
 start c = c .before .before .before .before .before .before
 
+abbrev gated : tie.After-unsaved → tie.After-lookup-gate
+gated c = c .before .before
+
 abbrev passed : tie.After-find → tie.Else1
 passed c = c .before .before
 
@@ -48,7 +51,7 @@ known c = sym (c .enum-told .given .1) ∙ found (sought c)
 
 returns : tie.Need-returns
 unfolding recallScene
-returns c = let g = c .before .before in refuses-outcome (came g) (start g .pre) _ _ (g .lookup-gate .ensures) _ _ (c .unsaved .ensures) (c .before .if1 .taken)
+returns c = refuses-outcome (came (gated c)) (start (gated c) .pre) _ _ (gated c .lookup-gate .ensures) _ _ (c .unsaved .ensures) (c .before .if1 .taken)
 
 find-requires : tie.Need-find-requires
 find-requires c κs = let h = admitted (c .before) .room in omega arith

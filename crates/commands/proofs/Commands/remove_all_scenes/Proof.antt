@@ -22,6 +22,9 @@ use Rattle.commands.proofs.Commands.remove_all_scenes.Tie as tie
 abbrev start : tie.After-group-gate → tie.Start
 start c = c .before .before .before .before .before .before
 
+abbrev gated : tie.After-unsaved → tie.After-group-gate
+gated c = c .before .before
+
 abbrev passed : tie.After-retain-arg3 → tie.Else1
 passed c = c .before .before .before
 
@@ -49,7 +52,7 @@ left-by c = retained-table (came (passed (c .before) .before)) _ _ _ _ _ (c .ret
 
 returns : tie.Need-returns
 unfolding removeAllScenes
-returns c = let g = c .before .before in refuses-outcome (came g) (start g .pre) _ _ (g .group-gate .ensures) _ _ (c .unsaved .ensures) (c .before .if1 .taken)
+returns c = refuses-outcome (came (gated c)) (start (gated c) .pre) _ _ (gated c .group-gate .ensures) _ _ (c .unsaved .ensures) (c .before .if1 .taken)
 
 retain-requires : tie.Need-retain-requires
 retain-requires c κs = let h = admitted (passed c) .room in omega arith

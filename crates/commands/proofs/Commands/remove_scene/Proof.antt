@@ -23,6 +23,9 @@ use Rattle.commands.proofs.Commands.remove_scene.Tie as tie
 abbrev start : tie.After-lookup-gate → tie.Start
 start c = c .before .before .before .before .before .before
 
+abbrev gated : tie.After-unsaved → tie.After-lookup-gate
+gated c = c .before .before
+
 abbrev passed : tie.After-word → tie.Else1
 passed c = c .before .before
 
@@ -50,7 +53,7 @@ under c = found-under _ _ _ _ (sym (found (c .before .before)) ∙ c .at .given 
 
 returns : tie.Need-returns
 unfolding removeScene
-returns c = let g = c .before .before in refuses-outcome (came g) (start g .pre) _ _ (g .lookup-gate .ensures) _ _ (c .unsaved .ensures) (c .before .if1 .taken)
+returns c = refuses-outcome (came (gated c)) (start (gated c) .pre) _ _ (gated c .lookup-gate .ensures) _ _ (c .unsaved .ensures) (c .before .if1 .taken)
 
 find-requires : tie.Need-find-requires
 find-requires c κs = let h = admitted (passed c) .room in omega arith

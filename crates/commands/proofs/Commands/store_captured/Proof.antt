@@ -45,24 +45,26 @@ found c = found-scene _ (came (ended c)) _ _ (c .before .word .ensures) (c .find
 captured-length : (c : tie.After-end-capture) → c .end-capture .result ≡ length (start c .args .captured .now ++ (endOfContainer ∷ []))
 captured-length c = omega (arith, c .end-capture .ensures .0, length-append (start c .args .captured .now) (endOfContainer ∷ []))
 
--- what the upsert left
-abbrev after : tie.After-upsert-scene → Upserted
-after c =
+-- what the upsert answered and left
+abbrev answered : tie.After-upsert-scene → Result
+answered c =
     let u = c .upsert-scene in
-    upsertedOf (u .result .status) (tableOf (u .result .state) (u .last .1 .0) (u .last .1 .1 .0) (u .last .1 .1 .1 .0) (u .last .1 .1 .1 .1 .0))
+    resultOf (u .result .status) (u .result .save)
+    (tableOf (u .result .state) (u .last .1 .0) (u .last .1 .1 .0) (u .last .1 .1 .1 .0) (u .last .1 .1 .1 .1 .0))
 
-abbrev withoutMark : Result → Upserted
-withoutMark r = upsertedOf (r .status) (r .table)
+abbrev after : tie.After-upsert-scene → Upserted
+after c = upsertedOf (answered c .status) (answered c .table)
+
+abbrev entered : tie.After-upsert-scene → tie.After-end-capture
+entered c = ended (sought (prior (c .before)))
 
 told : (c : tie.After-upsert-scene)
-    → (let e = ended (sought (prior (c .before))) in
-    let a = start e .args in
-    after c ≡ upsert (a .key) (priorTime (findScene (a .key) (came e)) (a .times .now)) (a .captured .now ++ (endOfContainer ∷ [])) (came e))
+    → (let a = start (entered c) .args in
+    let t = came (entered c) in
+    after c ≡ upsert (a .key) (priorTime (findScene (a .key) t) (a .times .now)) (a .captured .now ++ (endOfContainer ∷ [])) t)
 told c =
-    let p = prior (c .before) in
-    let e = ended (sought p) in
-    upserted-prior (start e .args .key) _ _ (came e) (after c) (ap withoutMark (c .upsert-scene .ensures)) _ _
-    (p .prior-time .ensures) (found (sought p)) (e .end-capture .ensures .1)
+    upserted-prior (start (entered c) .args .key) _ _ (came (entered c)) (answered c) _ _ (c .upsert-scene .ensures)
+    (prior (c .before) .prior-time .ensures) (found (sought (prior (c .before)))) (entered c .end-capture .ensures .1)
 
 slice-aggregate-upsert-scene : tie.Need-slice-aggregate-upsert-scene
 slice-aggregate-upsert-scene c =
@@ -82,12 +84,12 @@ returns c =
     let u = upserted (c .before .before) in
     ap (resultIn (after u .table .slots) (after u .table .records)) (c .unsaved .ensures)
     ∙ not-stored _ (after u) (c .before .if1 .taken)
-    ∙ ap (stored (start (ended (sought (prior (u .before)))) .args .key)) (told u)
+    ∙ ap (stored (start (entered u) .args .key)) (told u)
 
 remember-current-requires : tie.Need-remember-current-requires
 remember-current-requires c κs =
     let u = upserted (c .before .before) in
-    let room = start (ended (sought (prior (u .before)))) .pre .0 in
+    let room = start (entered u) .pre .0 in
     let head = upserted-head _ _ _ _ _ (told u) in
     omega (arith, head .recorded, head .size, room .recorded, room .records)
 
@@ -96,7 +98,7 @@ unfolding storeCaptured
 returns-2 c =
     let r = c .before .before in
     let u = upserted (r .before .before .before) in
-    let key = start (ended (sought (prior (u .before)))) .args .key in
+    let key = start (entered u) .args .key in
     ap (resultOf success true) (changed-current (after u .table) (rememberCurrent key) _ _ (r .remember-current .ensures))
     ∙ was-stored _ (after u) (r .before .before .if1 .left)
     ∙ ap (stored key) (told u)

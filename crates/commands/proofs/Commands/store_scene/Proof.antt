@@ -16,6 +16,9 @@ use Rattle.commands.proofs.Commands.store_scene.Tie as tie
 abbrev start : tie.After-store-gate → tie.Start
 start c = c .before .before .before .before .before .before .before
 
+abbrev gated : tie.After-unsaved → tie.After-store-gate
+gated c = c .before .before
+
 abbrev passed : tie.After-store-captured-arg4 → tie.Else1
 passed c = c .before .before .before .before
 
@@ -32,7 +35,7 @@ admitted c = admits _ (start (c .before) .pre) _ _ (c .before .store-gate .ensur
 
 returns : tie.Need-returns
 unfolding storeScene
-returns c = let g = c .before .before in refuses-outcome (came g) (start g .pre) _ _ (g .store-gate .ensures) _ _ (c .unsaved .ensures) (c .before .if1 .taken)
+returns c = refuses-outcome (came (gated c)) (start (gated c) .pre) _ _ (gated c .store-gate .ensures) _ _ (c .unsaved .ensures) (c .before .if1 .taken)
 
 store-captured-requires : tie.Need-store-captured-requires
 store-captured-requires c κs = let h = admitted (passed c) in (h .room, omega (arith, store-passed _ _ _ _ (h .asked) .1))

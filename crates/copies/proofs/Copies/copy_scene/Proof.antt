@@ -13,6 +13,9 @@ use Rattle.copies.proofs.Copies.copy_scene.Tie as tie
 abbrev start : tie.After-copy-gate → tie.Start
 start c = c .before .before .before .before .before .before
 
+abbrev gated : tie.After-unsaved → tie.After-copy-gate
+gated c = c .before .before
+
 abbrev passed : tie.After-copy-scenes-inner-arg4 → tie.Else1
 passed c = c .before .before .before .before
 
@@ -28,9 +31,7 @@ admitted c = admits _ (start (c .before) .pre) _ _ (c .before .copy-gate .ensure
 
 returns : tie.Need-returns
 unfolding copyScene
-returns c =
-    let g = c .before .before in
-    refuses-outcome (came g) (start g .pre) _ _ (g .copy-gate .ensures) _ (copyScenesInner (start g .args .request) (came g)) (c .unsaved .ensures) (c .before .if1 .taken)
+returns c = refuses-outcome (came (gated c)) (start (gated c) .pre) _ _ (gated c .copy-gate .ensures) _ (copyScenesInner (start (gated c) .args .request) (came (gated c))) (c .unsaved .ensures) (c .before .if1 .taken)
 
 copy-scenes-inner-requires : tie.Need-copy-scenes-inner-requires
 copy-scenes-inner-requires c κs = sound-copy-room _ (start (passed c .before) .pre)

@@ -22,6 +22,9 @@ use Rattle.lifecycle.proofs.Lifecycle.remove_for_fabric.Tie as tie
 abbrev start : tie.After-fabric-gate → tie.Start
 start c = c .before .before .before .before .before .before
 
+abbrev gated : tie.After-unsaved → tie.After-fabric-gate
+gated c = c .before .before
+
 abbrev passed : tie.After-retain-arg3 → tie.Else1
 passed c = c .before .before .before
 
@@ -46,7 +49,7 @@ left-by c = retained-table (came (passed (c .before) .before)) _ _ _ _ _ (c .ret
 
 returns : tie.Need-returns
 unfolding removeForFabric
-returns c = let g = c .before .before in refuses-outcome (came g) (start g .pre) _ _ (g .fabric-gate .ensures) _ _ (c .unsaved .ensures) (c .before .if1 .taken)
+returns c = refuses-outcome (came (gated c)) (start (gated c) .pre) _ _ (gated c .fabric-gate .ensures) _ _ (c .unsaved .ensures) (c .before .if1 .taken)
 
 retain-requires : tie.Need-retain-requires
 retain-requires c κs = let h = admitted (passed c) .room in omega arith

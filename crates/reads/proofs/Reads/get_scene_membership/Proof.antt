@@ -25,6 +25,9 @@ use Rattle.reads.proofs.Reads.get_scene_membership.Tie as tie
 abbrev start : tie.After-group-gate → tie.Start
 start c = c .before .before .before .before .before .before .before
 
+abbrev gated : tie.After-refused → tie.After-group-gate
+gated c = c .before .before
+
 abbrev passed : tie.After-count-fits → tie.Else1
 passed c = c .before
 
@@ -34,7 +37,16 @@ counted c = c .before .before
 abbrev listing : tie.After-slice-known2 → tie.After-list-scenes
 listing c = c .before .before
 
--- the table that came in
+abbrev list : tie.After-remaining-capacity-for-fab → tie.After-list-scenes
+list c = listing (c .before)
+
+abbrev gate : tie.After-remaining-capacity-for-fab → tie.After-group-gate
+gate c = passed (counted (list c .before)) .before
+
+-- the table and the list buffer that came in
+abbrev buffer : tie.After-group-gate → List ℕ
+buffer c = start c .args .ids .now
+
 abbrev came : tie.After-group-gate → Table
 came c = let a = start c .args in tableOf (a .self .state) (a .keys .now) (a .times .now) (a .fields .now) (a .records .now)
 
@@ -57,18 +69,24 @@ list-long : (l : List ℕ) (left : ℕ) (buffer : List ℕ) (t : Table) → leng
 unfolding listIds
 list-long l left buffer t h = rw (lt-ltb (length buffer) (length l) h)
 
-list-fits : (l : List ℕ) (left : ℕ) (buffer : List ℕ) (t : Table) → length l ≤ length buffer
-    → listedOf (record { status = success; remaining = left; len = length l; state = t .state }) (laid l buffer) ≡ listIds l left buffer t
+-- n ids were listed, and left is what remains
+list-fits : (key : GroupKey) (left n : ℕ) (ids buffer : List ℕ) (t : Table)
+    → n ≡ countKeys (t .slots .keys) (t .state .entries) (Group key)
+    → ids ≡ laid (sceneIds key t) buffer
+    → left ≡ remaining (t .state) (t .slots .keys) (key .fabric)
+    → length (sceneIds key t) ≤ length buffer
+    → listedOf (record { status = success; remaining = left; len = n; state = t .state }) ids
+    ≡ listIds (sceneIds key t) (remaining (t .state) (t .slots .keys) (key .fabric)) buffer t
 unfolding listIds
-list-fits l left buffer t h = rw (le-ltb (length buffer) (length l) h)
+list-fits key left n ids buffer t e1 e2 e3 h =
+    (λ i. listedOf (record { status = success; remaining = e3 i; len = (e1 ∙ size-of key t) i; state = t .state }) (e2 i))
+    ∙ rw (le-ltb (length buffer) (length (sceneIds key t)) h)
 
 returns : tie.Need-returns
 unfolding getSceneMembership
 returns c =
-    let g = c .before .before in
-    let ids = start g .args .ids .now in
-    (λ d. listedOf (c .refused .ensures d) ids)
-    ∙ refuses (came g) (start g .pre) _ _ (g .group-gate .ensures) (unlisted ids (came g)) _ (c .before .if1 .taken)
+    (λ d. listedOf (c .refused .ensures d) (buffer (gated c)))
+    ∙ refuses (came (gated c)) (start (gated c) .pre) _ _ (gated c .group-gate .ensures) (unlisted (buffer (gated c)) (came (gated c))) _ (c .before .if1 .taken)
 
 count-fits-requires : tie.Need-count-fits-requires
 count-fits-requires c κs = let h = admitted c .room in omega arith
@@ -85,15 +103,10 @@ remaining-capacity-for-fab-requires c κs = let h = admitted (passed (counted (l
 returns-2 : tie.Need-returns-2
 unfolding getSceneMembership
 returns-2 c =
-    let list = listing (c .before) in
-    let count = counted (list .before) in
-    let g = passed count .before in
-    let a = start g .args in
-    let size = list .list-scenes .ensures .0 ∙ size-of (a .key) (came g) in
-    (λ d. listedOf (record { status = success; remaining = c .remaining-capacity-for-fab .ensures d; len = size d; state = a .self .state }) (list .list-scenes .ensures .1 d))
-    ∙ list-fits (sceneIds (a .key) (came g)) (remaining (a .self .state) (a .keys .now) (a .key .fabric)) (a .ids .now) (came g)
-    (fitting (a .key) (came g) (count .count-fits .ensures) (list .before .before .if2 .taken))
-    ∙ admitted (passed count) .answers (unlisted (a .ids .now) (came g)) _
+    list-fits (start (gate c) .args .key) _ _ _ (buffer (gate c)) (came (gate c)) (list c .list-scenes .ensures .0) (list c .list-scenes .ensures .1)
+    (c .remaining-capacity-for-fab .ensures)
+    (fitting (start (gate c) .args .key) (came (gate c)) (counted (list c .before) .count-fits .ensures) (list c .before .before .if2 .taken))
+    ∙ admitted (passed (counted (list c .before))) .answers (unlisted (buffer (gate c)) (came (gate c))) _
 
 returns-3 : tie.Need-returns-3
 unfolding getSceneMembership

@@ -20,6 +20,9 @@ use Rattle.reads.proofs.Reads.read_fabric_scene_info.Tie as tie
 abbrev start : tie.After-info-gate → tie.Start
 start c = c .before .before .before .before .before .before
 
+abbrev gated : tie.After-absent → tie.After-info-gate
+gated c = c .before .before
+
 abbrev passed : tie.After-count → tie.Else1
 passed c = c .before
 
@@ -62,7 +65,7 @@ under c = found-under _ _ _ _ _ (sym (known c))
 
 returns : tie.Need-returns
 unfolding readFabricSceneInfo
-returns c = let g = c .before .before in c .absent .ensures ∙ refuses (came g) (start g .pre) _ _ (g .info-gate .ensures) _ _ (c .before .if1 .taken)
+returns c = c .absent .ensures ∙ refuses (came (gated c)) (start (gated c) .pre) _ _ (gated c .info-gate .ensures) _ _ (c .before .if1 .taken)
 
 count-requires : tie.Need-count-requires
 count-requires c κs = let h = admitted c .room in omega arith

@@ -2,16 +2,15 @@
 use Prim.Native.Nat.{_<_}
 use mathlib.Core.Path.{_≡_, sym, ap, _∙_}
 use native.Mathlib.Omega.{arith}
-use Rattle.words.specs.Constants.{success}
 use Rattle.words.specs.declared.Found.{Found}
 use Rattle.requests.specs.Requests.{lookupGate}
-use Rattle.slots.specs.Slots.{lengthAt}
 use Rattle.state.specs.Table.{Table, tableOf}
 use Rattle.state.specs.Change.{findScene}
 use Rattle.state.proofs.Laws.{found-under}
 use Rattle.state.proofs.Guard.{Admitted, admits, refuses}
 use Rattle.state.proofs.Changes.{found-scene}
 use Rattle.reads.specs.Reads.{readAt, recallLookup}
+use Rattle.reads.proofs.Laws.{read-found}
 use borrow.Author.Needs.{needs}
 use Rattle.reads.proofs.Reads.recall_lookup.Statement.{statement}
 use Rattle.reads.proofs.Reads.recall_lookup.Tie as tie
@@ -19,6 +18,9 @@ use Rattle.reads.proofs.Reads.recall_lookup.Tie as tie
 -- the places that the proof refers to, each from a later one
 abbrev start : tie.After-lookup-gate → tie.Start
 start c = c .before .before .before .before .before .before
+
+abbrev gated : tie.After-refused → tie.After-lookup-gate
+gated c = c .before .before
 
 abbrev passed : tie.After-find → tie.Else1
 passed c = c .before .before
@@ -28,6 +30,12 @@ sought c = c .before .before
 
 abbrev known : tie.After-shared-slice-known5 → tie.After-at
 known c = c .before .before
+
+abbrev read : tie.After-found → tie.After-at
+read c = known (c .before .before)
+
+abbrev gate : tie.After-found → tie.After-lookup-gate
+gate c = passed (sought (read c)) .before
 
 -- the table that came in
 abbrev came : tie.After-lookup-gate → Table
@@ -44,7 +52,7 @@ under c = found-under _ _ _ _ (sym (found (sought c)) ∙ c .at .given .1)
 
 returns : tie.Need-returns
 unfolding recallLookup
-returns c = let g = c .before .before in c .refused .ensures ∙ refuses (came g) (start g .pre) _ _ (g .lookup-gate .ensures) _ _ (c .before .if1 .taken)
+returns c = c .refused .ensures ∙ refuses (came (gated c)) (start (gated c) .pre) _ _ (gated c .lookup-gate .ensures) _ _ (c .before .if1 .taken)
 
 find-requires : tie.Need-find-requires
 find-requires c κs = let h = admitted (c .before) .room in omega arith
@@ -70,15 +78,10 @@ found-requires c κs = let a = known (c .before) in let h = admitted (passed (so
 returns-3 : tie.Need-returns-3
 unfolding recallLookup readAt
 returns-3 c =
-    let e = c .before in
-    let a = known (e .before) in
-    let p = passed (sought a) in
-    let t = came (p .before) in
-    let at = a .at .given .0 .0 in
     c .found .ensures
-    ∙ (λ i. record { status = success; time = e .effective-time .ensures i; at = at; len = lengthAt (t .slots .fields) at; state = t .state })
-    ∙ ap (λ (x : Found). readAt x (start (p .before) .args .transition) t) (sym (a .at .given .1) ∙ found (sought a))
-    ∙ admitted p .answers _ _
+    ∙ read-found (came (gate c)) (read c .at .given .0 .0) (c .before .effective-time .result) (start (gate c) .args .transition) (c .before .effective-time .ensures)
+    ∙ ap (λ (x : Found). readAt x (start (gate c) .args .transition) (came (gate c))) (sym (read c .at .given .1) ∙ found (sought (read c)))
+    ∙ admitted (passed (sought (read c))) .answers _ _
 
 pub recall-lookup-spec : {M : Type 1} → statement M
 recall-lookup-spec =

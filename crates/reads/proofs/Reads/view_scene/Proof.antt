@@ -19,6 +19,9 @@ use Rattle.reads.proofs.Reads.view_scene.Tie as tie
 abbrev start : tie.After-lookup-gate → tie.Start
 start c = c .before .before .before .before .before .before
 
+abbrev gated : tie.After-refused → tie.After-lookup-gate
+gated c = c .before .before
+
 abbrev passed : tie.After-find → tie.Else1
 passed c = c .before .before
 
@@ -27,6 +30,9 @@ sought c = c .before .before
 
 abbrev known : tie.After-shared-slice-known5 → tie.After-at
 known c = c .before .before
+
+abbrev read : tie.After-found → tie.After-at
+read c = known (c .before)
 
 -- the table that came in
 abbrev came : tie.After-lookup-gate → Table
@@ -43,7 +49,7 @@ under c = found-under _ _ _ _ (sym (found (sought c)) ∙ c .at .given .1)
 
 returns : tie.Need-returns
 unfolding viewScene
-returns c = let g = c .before .before in c .refused .ensures ∙ refuses (came g) (start g .pre) _ _ (g .lookup-gate .ensures) _ _ (c .before .if1 .taken)
+returns c = c .refused .ensures ∙ refuses (came (gated c)) (start (gated c) .pre) _ _ (gated c .lookup-gate .ensures) _ _ (c .before .if1 .taken)
 
 find-requires : tie.Need-find-requires
 find-requires c κs = let h = admitted (c .before) .room in omega arith
@@ -69,11 +75,9 @@ found-requires c κs = let a = known c in let h = admitted (passed (sought a)) .
 returns-3 : tie.Need-returns-3
 unfolding viewScene readAt
 returns-3 c =
-    let a = known (c .before) in
-    let p = passed (sought a) in
     c .found .ensures
-    ∙ ap (λ (x : Found). readAt x Stored (came (p .before))) (sym (a .at .given .1) ∙ found (sought a))
-    ∙ admitted p .answers _ _
+    ∙ ap (λ (x : Found). readAt x Stored (came (passed (sought (read c)) .before))) (sym (read c .at .given .1) ∙ found (sought (read c)))
+    ∙ admitted (passed (sought (read c))) .answers _ _
 
 pub view-scene-spec : {M : Type 1} → statement M
 view-scene-spec =

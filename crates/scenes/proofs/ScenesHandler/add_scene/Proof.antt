@@ -15,7 +15,7 @@ add-scene-requires c κs = sym (admitted c .before .is-sound .ensures) ∙ admit
 
 returns-2 : tie.Need-returns-2
 unfolding addScene
-returns-2 c = unsound-outcome _ (sym (c .before .before .is-sound .ensures) ∙ c .before .if1 .left) _ _ _ (c .unsaved .ensures)
+returns-2 c = unsound-outcome _ (sym (c .before .before .is-sound .ensures) ∙ c .before .if1 .left) _ _ _ (c .unsound .ensures)
 
 pub add-scene-spec : {M : Type 1} → statement M
 add-scene-spec =

@@ -15,7 +15,7 @@ copy-scene-requires c κs = sym (admitted c .before .is-sound .ensures) ∙ admi
 
 returns-2 : tie.Need-returns-2
 unfolding copyScene
-returns-2 c = unsound-outcome _ (sym (c .before .before .is-sound .ensures) ∙ c .before .if1 .left) _ _ _ (c .unsaved .ensures)
+returns-2 c = unsound-outcome _ (sym (c .before .before .is-sound .ensures) ∙ c .before .if1 .left) _ _ _ (c .unsound .ensures)
 
 pub copy-scene-spec : {M : Type 1} → statement M
 copy-scene-spec =

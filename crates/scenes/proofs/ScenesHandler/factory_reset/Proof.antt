@@ -11,7 +11,7 @@ factory-reset-requires c κs = sym (c .before .is-sound .ensures) ∙ c .if1 .ta
 
 returns-2 : tie.Need-returns-2
 unfolding factoryReset
-returns-2 c = unsound-outcome _ (sym (c .before .before .is-sound .ensures) ∙ c .before .if1 .left) _ _ _ (c .unsaved .ensures)
+returns-2 c = unsound-outcome _ (sym (c .before .before .is-sound .ensures) ∙ c .before .if1 .left) _ _ _ (c .unsound .ensures)
 
 pub factory-reset-spec : {M : Type 1} → statement M
 factory-reset-spec =

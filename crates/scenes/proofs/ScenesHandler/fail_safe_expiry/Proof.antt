@@ -11,7 +11,7 @@ fail-safe-expiry-requires c κs = sym (c .before .is-sound .ensures) ∙ c .if1 
 
 returns-2 : tie.Need-returns-2
 unfolding failSafe
-returns-2 c = unsound-outcome _ (sym (c .before .before .is-sound .ensures) ∙ c .before .if1 .left) _ _ _ (c .unsaved .ensures)
+returns-2 c = unsound-outcome _ (sym (c .before .before .is-sound .ensures) ∙ c .before .if1 .left) _ _ _ (c .unsound .ensures)
 
 pub fail-safe-expiry-spec : {M : Type 1} → statement M
 fail-safe-expiry-spec =

@@ -1,6 +1,8 @@
 -- `ScenesHandler::get_scene_membership` meets its contract: on a sound table it is the call of this name, and on any other it answers 6. Assumes nothing.
+use Prim.Native.Nat.{ℕ}
 use mathlib.Core.Path.{sym, _∙_}
-use Rattle.state.specs.Table.{tableOf}
+use mathlib.Core.List.{List}
+use Rattle.state.specs.Table.{Table, tableOf}
 use Rattle.state.proofs.Guard.{answers-unsound}
 use Rattle.reads.specs.Reads.{listedOf, unlisted, getSceneMembership}
 use borrow.Author.Needs.{needs}
@@ -14,13 +16,18 @@ admitted c = c .before
 get-scene-membership-requires : tie.Need-get-scene-membership-requires
 get-scene-membership-requires c κs = sym (admitted c .before .is-sound .ensures) ∙ admitted c .if1 .taken
 
+-- the table that came in, and its list buffer
+abbrev came : tie.After-is-sound → Table
+came c = let a = c .before .before .before .before .before .before .before .args in tableOf (a .self .state) (a .keys .now) (a .times .now) (a .fields .now) (a .records .now)
+
+abbrev buffer : tie.After-is-sound → List ℕ
+buffer c = c .before .before .before .before .before .before .before .args .ids .now
+
 returns-2 : tie.Need-returns-2
 unfolding getSceneMembership
 returns-2 c =
-    let a = c .before .before .before .before .before .before .before .before .before .args in
-    let t = tableOf (a .self .state) (a .keys .now) (a .times .now) (a .fields .now) (a .records .now) in
-    (λ i. listedOf (c .refused .ensures i) (a .ids .now))
-    ∙ answers-unsound t (sym (c .before .before .is-sound .ensures) ∙ c .before .if1 .left) _ (unlisted (a .ids .now) t) _
+    (λ i. listedOf (c .refused .ensures i) (buffer (c .before .before)))
+    ∙ answers-unsound _ (sym (c .before .before .is-sound .ensures) ∙ c .before .if1 .left) _ (unlisted (buffer (c .before .before)) (came (c .before .before))) _
 
 pub get-scene-membership-spec : {M : Type 1} → statement M
 get-scene-membership-spec =

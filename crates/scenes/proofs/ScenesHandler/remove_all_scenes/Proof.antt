@@ -15,7 +15,7 @@ remove-all-scenes-requires c κs = sym (admitted c .before .is-sound .ensures) �
 
 returns-2 : tie.Need-returns-2
 unfolding removeAllScenes
-returns-2 c = unsound-outcome _ (sym (c .before .before .is-sound .ensures) ∙ c .before .if1 .left) _ _ _ (c .unsaved .ensures)
+returns-2 c = unsound-outcome _ (sym (c .before .before .is-sound .ensures) ∙ c .before .if1 .left) _ _ _ (c .unsound .ensures)
 
 pub remove-all-scenes-spec : {M : Type 1} → statement M
 remove-all-scenes-spec =

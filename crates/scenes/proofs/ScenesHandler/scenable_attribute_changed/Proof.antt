@@ -15,7 +15,7 @@ scenable-attribute-changed-requires c κs = sym (admitted c .before .is-sound .e
 
 returns-2 : tie.Need-returns-2
 unfolding scenableAttributeChanged
-returns-2 c = unsound-outcome _ (sym (c .before .before .is-sound .ensures) ∙ c .before .if1 .left) _ _ _ (c .unsaved .ensures)
+returns-2 c = unsound-outcome _ (sym (c .before .before .is-sound .ensures) ∙ c .before .if1 .left) _ _ _ (c .unsound .ensures)
 
 pub scenable-attribute-changed-spec : {M : Type 1} → statement M
 scenable-attribute-changed-spec =

@@ -11,7 +11,7 @@ startup-requires c κs = sym (c .before .is-sound .ensures) ∙ c .if1 .taken
 
 returns-2 : tie.Need-returns-2
 unfolding startup
-returns-2 c = unsound-outcome _ (sym (c .before .before .is-sound .ensures) ∙ c .before .if1 .left) _ _ _ (c .unsaved .ensures)
+returns-2 c = unsound-outcome _ (sym (c .before .before .is-sound .ensures) ∙ c .before .if1 .left) _ _ _ (c .unsound .ensures)
 
 pub startup-spec : {M : Type 1} → statement M
 startup-spec =

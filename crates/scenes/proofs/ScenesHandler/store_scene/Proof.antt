@@ -15,7 +15,7 @@ store-scene-requires c κs = sym (admitted c .before .is-sound .ensures) ∙ adm
 
 returns-2 : tie.Need-returns-2
 unfolding storeScene
-returns-2 c = unsound-outcome _ (sym (c .before .before .is-sound .ensures) ∙ c .before .if1 .left) _ _ _ (c .unsaved .ensures)
+returns-2 c = unsound-outcome _ (sym (c .before .before .is-sound .ensures) ∙ c .before .if1 .left) _ _ _ (c .unsound .ensures)
 
 pub store-scene-spec : {M : Type 1} → statement M
 store-scene-spec =

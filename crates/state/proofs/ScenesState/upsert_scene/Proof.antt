@@ -1,132 +1,119 @@
 -- `ScenesState::upsert_scene` meets its contract. Assumes nothing.
 use Prim.Native.Nat.{ℕ, _<_}
-use mathlib.Core.Path.{sym, ap, _∙_}
+use mathlib.Core.Path.{_≡_, sym, ap, _∙_}
+use mathlib.Core.Bool.{true}
 use native.Mathlib.Omega.{arith}
 use borrow.Author.Tests.{ltb-true}
-use Rattle.slots.specs.Slots.{putSlot}
-use Rattle.state.specs.Table.{tableOf}
-use Rattle.state.specs.Change.{saved}
+use Rattle.words.specs.declared.Found.the-variants.{At, Nothing}
+use Rattle.state.specs.Table.{Table, tableOf}
+use Rattle.state.specs.Capacity.{mayAppend}
+use Rattle.state.specs.Change.{findScene, saved}
 use Rattle.state.proofs.Laws.{found-under, upsert-known, upsert-new, may-decide}
 use Rattle.state.proofs.Guard.{resultIn}
 use borrow.Author.Needs.{needs}
 use Rattle.state.proofs.ScenesState.upsert_scene.Statement.{statement}
 use Rattle.state.proofs.ScenesState.upsert_scene.Tie as tie
 
-word-requires : tie.Need-word-requires
-word-requires c κs = search needs
+-- the places that the proof refers to, each from a later one
+abbrev start : tie.After-word → tie.Start
+start c = c .before .before .before .before .before .before
 
-enum-known-found : tie.Need-enum-known-found
-enum-known-found c = search needs
+abbrev missed : tie.After-enum-told → tie.After-word
+missed c = c .before .before
 
-enum-told : tie.Need-enum-told
-enum-told c = search needs
+abbrev free : tie.After-put-arg3 → tie.Then1
+free c = c .before .before .before
 
-may-append-requires : tie.Need-may-append-requires
-may-append-requires c κs = search needs
+abbrev appended : tie.After-invalidate-current-arg → tie.After-put
+appended c = c .before .before .before .before .before .before .before
+
+abbrev known : tie.After-put-arg6 → tie.After-found
+known c = c .before .before .before .before
+
+abbrev named : tie.After-found → tie.After-word
+named c = c .before .before
+
+abbrev written : tie.After-invalidate-current-arg2 → tie.After-put2
+written c = c .before .before .before .before .before .before .before
+
+abbrev marked : tie.After-slice-known8 → tie.After-invalidate-current
+marked c = c .before .before
+
+abbrev markedOver : tie.After-slice-known12 → tie.After-invalidate-current2
+markedOver c = c .before .before
+
+-- the table that came in
+abbrev came : tie.After-word → Table
+came c = let a = start c .args in tableOf (a .self) (a .keys .now) (a .times .now) (a .fields .now) (a .records .now)
+
+new : (c : tie.After-enum-told) → findScene (start (missed c) .args .key) (came (missed c)) ≡ Nothing
+new c = sym (start (missed c) .pre .1 .0) ∙ c .enum-told .given .1
+
+stands : (c : tie.After-found) → findScene (start (named c) .args .key) (came (named c)) ≡ At (c .found .given .0 .0)
+stands c = sym (start (named c) .pre .1 .0) ∙ c .found .given .1
+
+fits : (c : tie.Then1) → (let a = start (missed (c .before .before)) .args in mayAppend (a .self) (a .key .fabric) ≡ true)
+fits c = sym (c .before .may-append .ensures) ∙ c .if1 .taken
 
 put-requires : tie.Need-put-requires
 put-requires c κs =
-    let a = c .before .before .before .before .before .before .before .before .before .before .before .before .before .args in
-    let free : a .self .entries < a .self .size = ltb-true _ _ (sym (c .before .before .before .before .may-append .ensures) ∙ c .before .before .before .if1 .taken) in
-    let room = c .before .before .before .before .before .before .before .before .before .before .before .before .before .pre .0 in
+    let s = start (missed (free c .before .before)) in
+    let h : s .args .self .entries < s .args .self .size = ltb-true _ _ (fits (free c)) in
+    let room = s .pre .0 in
     omega arith
-
-add-self : tie.Need-add-self
-add-self c = search needs
-
-invalidate-current-requires : tie.Need-invalidate-current-requires
-invalidate-current-requires c κs = search needs
-
-same-length : tie.Need-same-length
-same-length c = search needs
-
-same-length-2 : tie.Need-same-length-2
-same-length-2 c = search needs
-
-same-length-3 : tie.Need-same-length-3
-same-length-3 c = search needs
-
-same-length-4 : tie.Need-same-length-4
-same-length-4 c = search needs
 
 returns : tie.Need-returns
 returns c =
-    let a = c .before .before .before .before .before .before .before .before .before .before .before .before .before .before .before .before .before .before .before .before .before .before .before .before .args in
-    let t = tableOf (a .self) (a .keys .now) (a .times .now) (a .fields .now) (a .records .now) in
-    let word = c .before .before .before .before .before .before .before .before .before .before .before .before .before .before .before .before .before .before .word .ensures in
-    ap saved
-    (upsert-new (a .key) (a .time) (a .ext .now) t _ _ _ _ _
-    (sym (c .before .before .before .before .before .before .before .before .before .before .before .before .before .before .before .before .before .before .before .before .before .before .before .before .pre .1 .0) ∙ c .before .before .before .before .before .before .before .before .before .before .before .before .before .before .before .before .enum-told .given .1)
-    (sym (c .before .before .before .before .before .before .before .before .before .before .before .before .before .before .before .may-append .ensures) ∙ c .before .before .before .before .before .before .before .before .before .before .before .before .before .before .if1 .taken)
-    (c .before .before .before .before .before .before .before .before .before .before .put .ensures ∙ ap (λ (w : ℕ). putSlot (a .self .entries) w (a .time) (a .ext .now) (t .slots)) word)
-    (c .before .before .invalidate-current .ensures))
-
-unsaved-requires : tie.Need-unsaved-requires
-unsaved-requires c κs = search needs
+    let p = appended (marked c .before) in
+    let told = free (p .before) .before .before in
+    let w = missed told in
+    let a = start w .args in
+    ap saved (upsert-new (a .key) (a .time) (a .ext .now) (came w) _ _ _ _ _ _ (w .word .ensures) (new told) (fits (free (p .before))) (p .put .ensures) (marked c .invalidate-current .ensures))
 
 returns-2 : tie.Need-returns-2
 returns-2 c =
-    let a = c .before .before .before .before .before .before .before .before .before .before .before .args in
-    let t = tableOf (a .self) (a .keys .now) (a .times .now) (a .fields .now) (a .records .now) in
-    ap (resultIn (t .slots) (t .records)) (c .unsaved .ensures)
-    ∙ ap saved (may-decide (a .key) (a .time) (a .ext .now) t
-    (sym (c .before .before .before .before .before .before .before .before .before .before .before .pre .1 .0) ∙ c .before .before .before .enum-told .given .1)
-    (sym (c .before .before .may-append .ensures) ∙ c .before .if1 .left))
+    let told = c .before .before .before in
+    let w = missed told in
+    let a = start w .args in
+    ap (resultIn (came w .slots) (came w .records)) (c .unsaved .ensures)
+    ∙ ap saved (may-decide (a .key) (a .time) (a .ext .now) (came w) (new told) (sym (c .before .before .may-append .ensures) ∙ c .before .if1 .left))
 
 put-requires-2 : tie.Need-put-requires-2
 put-requires-2 c κs =
-    let a = c .before .before .before .before .before .before .before .before .before .before .before .before .args in
-    let under = found-under (a .keys .now) (a .self .entries) _ _ (sym (c .before .before .before .before .before .before .before .before .before .before .before .before .pre .1 .0) ∙ c .before .before .before .before .found .given .1) in
+    let k = known c in
+    let under = found-under (start (named k) .args .keys .now) (start (named k) .args .self .entries) _ _ (stands k) in
     omega arith
-
-invalidate-current-requires-2 : tie.Need-invalidate-current-requires-2
-invalidate-current-requires-2 c κs = search needs
-
-same-length-5 : tie.Need-same-length-5
-same-length-5 c = search needs
-
-same-length-6 : tie.Need-same-length-6
-same-length-6 c = search needs
-
-same-length-7 : tie.Need-same-length-7
-same-length-7 c = search needs
-
-same-length-8 : tie.Need-same-length-8
-same-length-8 c = search needs
 
 returns-3 : tie.Need-returns-3
 returns-3 c =
-    let a = c .before .before .before .before .before .before .before .before .before .before .before .before .before .before .before .before .before .before .before .before .before .before .before .args in
-    let t = tableOf (a .self) (a .keys .now) (a .times .now) (a .fields .now) (a .records .now) in
-    let word = c .before .before .before .before .before .before .before .before .before .before .before .before .before .before .before .before .before .word .ensures in
-    ap saved
-    (upsert-known (a .key) (a .time) (a .ext .now) t _ _ _ _ _ _
-    (sym (c .before .before .before .before .before .before .before .before .before .before .before .before .before .before .before .before .before .before .before .before .before .before .before .pre .1 .0) ∙ c .before .before .before .before .before .before .before .before .before .before .before .before .before .before .before .found .given .1)
-    (c .before .before .before .before .before .before .before .before .before .before .put2 .ensures ∙ ap (λ (w : ℕ). putSlot (c .before .before .before .before .before .before .before .before .before .before .before .before .before .before .before .found .given .0 .0) w (a .time) (a .ext .now) (t .slots)) word)
-    (c .before .before .invalidate-current2 .ensures))
+    let p = written (markedOver c .before) in
+    let k = known (p .before) in
+    let w = named k in
+    let a = start w .args in
+    ap saved (upsert-known (a .key) (a .time) (a .ext .now) (came w) _ _ _ _ _ _ (w .word .ensures) _ (stands k) (p .put2 .ensures) (markedOver c .invalidate-current2 .ensures))
 
 pub upsert-scene-spec : {M : Type 1} → statement M
 upsert-scene-spec =
     tie.close
     (tie.spec
-    word-requires
-    enum-known-found
-    enum-told
-    may-append-requires
+    (λ c κs. search needs)
+    (λ c. search needs)
+    (λ c. search needs)
+    (λ c κs. search needs)
     put-requires
-    add-self
-    invalidate-current-requires
-    same-length
-    same-length-2
-    same-length-3
-    same-length-4
+    (λ c. search needs)
+    (λ c κs. search needs)
+    (λ c. search needs)
+    (λ c. search needs)
+    (λ c. search needs)
+    (λ c. search needs)
     returns
-    unsaved-requires
+    (λ c κs. search needs)
     returns-2
     put-requires-2
-    invalidate-current-requires-2
-    same-length-5
-    same-length-6
-    same-length-7
-    same-length-8
+    (λ c κs. search needs)
+    (λ c. search needs)
+    (λ c. search needs)
+    (λ c. search needs)
+    (λ c. search needs)
     returns-3)
