@@ -1,29 +1,29 @@
--- `damaged::fill_keys` is safe and ends. Assumes nothing.
+-- `damaged::put_nth` is safe and ends. Assumes nothing.
 use Prim.Native.Nat.{_-_}
 use mathlib.Core.Path.{_≡_, refl}
 use native.Mathlib.Omega.{arith}
 use lib.ListN.{length}
 use borrow.Author.Needs.{needs}
-use Rattle.damaged.proofs.fill_keys.Statement.{statement}
-use Rattle.damaged.proofs.fill_keys.Tie as tie
+use Rattle.damaged.proofs.put_nth.Statement.{statement}
+use Rattle.damaged.proofs.put_nth.Tie as tie
 
 abbrev Inv-loop : tie.InvT-loop
-Inv-loop row keys₀ i₀ keys i = length keys ≡ length keys₀
+Inv-loop out₀ at row names next₀ name₀ i₀ out next name i = length out ≡ length out₀
 
 abbrev μ-loop : tie.MeasureT-loop
-μ-loop row keys₀ i₀ keys i = length keys₀ - i
+μ-loop out₀ at row names next₀ name₀ i₀ out next name i = length names - i
 
 loop-holds : tie.Need-loop-holds Inv-loop μ-loop
 loop-holds c = refl
 
-key-at-requires : tie.Need-key-at-requires Inv-loop μ-loop
-key-at-requires c κs = tt
+shared-slice-read-b : tie.Need-shared-slice-read-b Inv-loop μ-loop
+shared-slice-read-b c = omega arith
 
-mul-keys : tie.Need-mul-keys Inv-loop μ-loop
-mul-keys c = omega arith
+put-if-requires : tie.Need-put-if-requires Inv-loop μ-loop
+put-if-requires c κs = tt
 
-slice-write-keys : tie.Need-slice-write-keys Inv-loop μ-loop
-slice-write-keys c = omega arith
+after-requires : tie.Need-after-requires Inv-loop μ-loop
+after-requires c κs = tt
 
 add-i : tie.Need-add-i Inv-loop μ-loop
 add-i c = omega arith
@@ -40,16 +40,16 @@ same-length c = search needs
 returns : tie.Need-returns Inv-loop μ-loop
 returns c = tt
 
-pub fill-keys-spec : {M : Type 1} → statement M
-fill-keys-spec =
+pub put-nth-spec : {M : Type 1} → statement M
+put-nth-spec =
     tie.close
     (tie.spec
     Inv-loop
     μ-loop
     loop-holds
-    key-at-requires
-    mul-keys
-    slice-write-keys
+    shared-slice-read-b
+    put-if-requires
+    after-requires
     add-i
     loop-less
     loop-again

@@ -1,27 +1,21 @@
--- `damaged::keys_kept` is safe and ends. Assumes nothing.
+-- `calls::ids_kept` is safe and ends. Assumes nothing.
 use Prim.Native.Nat.{_-_}
 use native.Mathlib.Omega.{arith}
 use lib.ListN.{length}
-use Rattle.damaged.proofs.keys_kept.Statement.{statement}
-use Rattle.damaged.proofs.keys_kept.Tie as tie
+use Rattle.calls.proofs.ids_kept.Statement.{statement}
+use Rattle.calls.proofs.ids_kept.Tie as tie
 
 abbrev Inv-loop : tie.InvT-loop
-Inv-loop row keys i₀ i = Unit {0}
+Inv-loop ids i₀ i = Unit {0}
 
 abbrev μ-loop : tie.MeasureT-loop
-μ-loop row keys i₀ i = length keys - i
+μ-loop ids i₀ i = length ids - i
 
 loop-holds : tie.Need-loop-holds Inv-loop μ-loop
 loop-holds c = tt
 
-mul-if1 : tie.Need-mul-if1 Inv-loop μ-loop
-mul-if1 c = omega arith
-
 shared-slice-read-if1 : tie.Need-shared-slice-read-if1 Inv-loop μ-loop
 shared-slice-read-if1 c = omega arith
-
-key-at-requires : tie.Need-key-at-requires Inv-loop μ-loop
-key-at-requires c κs = tt
 
 returns : tie.Need-returns Inv-loop μ-loop
 returns c = tt
@@ -38,16 +32,14 @@ loop-again c = tt
 returns-2 : tie.Need-returns-2 Inv-loop μ-loop
 returns-2 c = tt
 
-pub keys-kept-spec : {M : Type 1} → statement M
-keys-kept-spec =
+pub ids-kept-spec : {M : Type 1} → statement M
+ids-kept-spec =
     tie.close
     (tie.spec
     Inv-loop
     μ-loop
     loop-holds
-    mul-if1
     shared-slice-read-if1
-    key-at-requires
     returns
     add-i
     loop-less
