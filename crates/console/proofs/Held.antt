@@ -7,10 +7,10 @@ use native.Mathlib.Omega.{arith}
 use lib.ListN.{length, take}
 use borrow.Author.Tests.{lt-ltb, le-ltb}
 use Rattle.words.specs.Constants.{maxScenes}
-use Rattle.text.specs.declared.input.Reason.the-variants.{TooLong}
-use Rattle.text.specs.Writing.{Sheet, sheet, writes}
-use Rattle.text.specs.Errors.{errorLine}
-use Rattle.text.proofs.Whole.{puts-whole}
+use Rattle.text_output.specs.declared.reason.Reason.the-variants.{TooLong}
+use Rattle.text_output.specs.Writing.{Sheet, sheet, writes}
+use Rattle.text_output.specs.Errors.{errorLine}
+use Rattle.text_output.proofs.Whole.{puts-whole}
 use Rattle.script.specs.declared.runner.Machine.{Machine}
 use Rattle.script.specs.Running.{counted, Session, session, runLine}
 use Rattle.script.proofs.Lengths.{error-puts, line-puts}

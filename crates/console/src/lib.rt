@@ -156,7 +156,7 @@ fn feed(
     let mut at = 0;
     let mut takes = true;
     while (from < chunk.len()) & takes {
-        let got = text::gather(chunk, from, line, held);
+        let got = text_input::gather(chunk, from, line, held);
         from = got.next;
         held = got.held;
         if got.ended {
@@ -195,7 +195,7 @@ fn read_part(chunk: &mut [u8], held: usize) -> Part
             failed: got < 0,
         };
     }
-    text::put(chunk, 0, b'\n');
+    text_output::put(chunk, 0, b'\n');
     Part {
         n: io::count(1, chunk),
         last: true,

@@ -226,7 +226,7 @@ fn after(name: u8, b: u8) -> u8 {
 
 fn put_if(out: &mut [u8], at: usize, yes: bool, b: u8) -> usize {
     if yes {
-        return text::put(out, at, b);
+        return text_output::put(out, at, b);
     }
     at
 }
@@ -267,9 +267,9 @@ fn put_name(out: &mut [u8], at: usize, row: u8) -> usize {
 
 // A status, with a mark behind it if something changed.
 fn put_shown(out: &mut [u8], at: usize, shown: Shown) -> usize {
-    let next = text::put_status(out, at, shown.status);
+    let next = text_output::put_status(out, at, shown.status);
     if shown.changed {
-        return text::put(out, next, b'*');
+        return text_output::put(out, next, b'*');
     }
     next
 }
@@ -282,7 +282,7 @@ fn put_row(out: &mut [u8], at: usize, row: u8) -> usize {
         next = put_shown(out, next, seen(row, call));
         call += 1;
     }
-    text::end_line(out, next)
+    text_output::end_line(out, next)
 }
 
 fn print_row(row: u8) {
@@ -296,7 +296,9 @@ fn print_row(row: u8) {
 fn main() {
     io::write_all(
         STDOUT_FILENO,
-        b"add, store, remove, remove all, copy, recall, notice, fabric removal, factory reset, startup, fail-safe commit, fail-safe expiry, view, recall's lookup, membership, info, is_sound, field_bytes; * something changed\n",
+        b"add, store, remove, remove all, copy, recall, notice, fabric removal, \
+          factory reset, startup, fail-safe commit, fail-safe expiry, view, recall's lookup, \
+          membership, info, is_sound, field_bytes; * something changed\n",
     );
     let mut row = 0;
     while row < ROWS {

@@ -4,7 +4,7 @@ use mathlib.Core.Path.{_≡_, refl, _∙_}
 use native.Mathlib.Omega.{arith}
 use lib.ListN.{length}
 use borrow.Author.Needs.{needs}
-use Rattle.text.proofs.Gathering.{gathers-on}
+use Rattle.text_input.proofs.Gathering.{gathers-on}
 use Rattle.console.specs.Whole.{mostHeld}
 use Rattle.console.proofs.Tests.{below-and}
 use Rattle.console.proofs.feed.Statement.{statement}
