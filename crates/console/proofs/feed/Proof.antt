@@ -1,5 +1,5 @@
 -- `console::feed` is safe and ends: each turn takes at least a byte of the chunk. Assumes nothing.
-use Prim.Native.Nat.{_-_, _≤_}
+use Prim.Native.Nat.{_-_, _<_, _≤_}
 use mathlib.Core.Path.{_≡_, refl, _∙_}
 use native.Mathlib.Omega.{arith}
 use lib.ListN.{length}
@@ -25,6 +25,19 @@ abbrev μ-loop : tie.MeasureT-loop
 μ-loop m₀ keys₀ times₀ fields₀ records₀ ids₀ line₀ before chunk out₀ held₀ from₀ at₀ takes₀ m keys times fields records ids line out held from at takes =
     length chunk - from
 
+-- the places that the facts come from: the start of the turn, and where its bytes were gathered and its line was run
+abbrev turn : tie.After-gather Inv-loop μ-loop → tie.At-loop Inv-loop μ-loop
+turn g = g .before .before .before
+
+abbrev gathered : tie.After-step Inv-loop μ-loop → tie.After-gather Inv-loop μ-loop
+gathered d = d .before .before .before .before .before .before .before .before .before .before .before
+
+abbrev ran : tie.After-m Inv-loop μ-loop → tie.After-step Inv-loop μ-loop
+ran c = c .before .before .before .before .before .before .before .before .before .before .before .before .before .before .before
+
+abbrev more : (g : tie.After-gather Inv-loop μ-loop) → turn g .loop .from < length (turn g .before .before .before .before .before .before .before .before .before .args .chunk .now)
+more g = below-and _ (length (turn g .before .before .before .before .before .before .before .before .before .args .chunk .now)) (turn g .loop .takes) (g .before .before .loop-test .taken)
+
 loop-holds : tie.Need-loop-holds Inv-loop μ-loop
 loop-holds c = (refl, refl, refl, refl, refl, refl, refl, omega arith)
 
@@ -40,18 +53,17 @@ step-requires c κs =
 
 loop-less : tie.Need-loop-less Inv-loop μ-loop
 loop-less c =
-    let d = c .before .before .before .before .before .before .before .before .before .before .before .before .before .before .before .before .before .before .before .before .before .before .before .before .before .before in
-    let l = d .before .before .before in
-    let t = below-and (l .loop .from) (length (l .before .before .before .before .before .before .before .before .before .args .chunk .now)) (l .loop .takes) (d .before .before .loop-test .taken) in
-    let n = gathers-on _ _ _ _ _ _ (d .gather .ensures) t in
+    let g = gathered (ran c) in
+    let t = more g in
+    let n = gathers-on _ _ _ _ _ _ (g .gather .ensures) t in
     omega arith
 
 loop-again : tie.Need-loop-again Inv-loop μ-loop
 loop-again c =
-    let d = c .before .before .before .before .before .before .before .before .before .before .before .before .before .before .before in
+    let d = ran c in
     let k = d .step .kept .1 in
-    let g = d .before .before .before .before .before .before .before .before .before .before .before in
-    let i = g .before .before .before .loop .inv in (
+    let g = gathered d in
+    let i = turn g .loop .inv in (
       k .0 ∙ i .0,
       k .1 .0 ∙ i .1,
       k .1 .1 .0 ∙ i .2,
@@ -64,16 +76,15 @@ loop-again c =
 
 loop-less-2 : tie.Need-loop-less-2 Inv-loop μ-loop
 loop-less-2 c =
-    let d = c .before .before .before in
-    let l = d .before .before .before in
-    let t = below-and (l .loop .from) (length (l .before .before .before .before .before .before .before .before .before .args .chunk .now)) (l .loop .takes) (d .before .before .loop-test .taken) in
-    let n = gathers-on _ _ _ _ _ _ (d .gather .ensures) t in
+    let g = c .before .before .before in
+    let t = more g in
+    let n = gathers-on _ _ _ _ _ _ (g .gather .ensures) t in
     omega arith
 
 loop-again-2 : tie.Need-loop-again-2 Inv-loop μ-loop
 loop-again-2 c =
     let g = c .before .before .before in
-    let i = g .before .before .before .loop .inv in
+    let i = turn g .loop .inv in
     (i .0, i .1, i .2, i .3, i .4, g .gather .kept .1 .1 .0 ∙ i .5, i .6, i .7)
 
 flush-requires : tie.Need-flush-requires Inv-loop μ-loop

@@ -1,5 +1,5 @@
 -- `console::run` is safe and ends: its turns are counted down. Assumes nothing.
-use Prim.Native.Nat.{_+_, _≤_}
+use Prim.Native.Nat.{_+_, _<_, _≤_}
 use mathlib.Core.Path.{_≡_, refl, sym, _∙_}
 use native.Mathlib.Omega.{arith}
 use lib.ListN.{length}
@@ -25,6 +25,19 @@ abbrev μ-loop : tie.MeasureT-loop
 μ-loop keys₀ times₀ fields₀ records₀ ids₀ line₀ chunk₀ room₀ m₀ held₀ more₀ failed₀ turns₀ keys times fields records ids line chunk room m held more failed turns =
     turns
 
+-- the places that the facts come from: where the turn starts, where its part was read, and where its lines were run
+abbrev turn : tie.After-read-part Inv-loop μ-loop → tie.At-loop Inv-loop μ-loop
+turn g = g .before .before .before
+
+abbrev part-read : tie.After-feed Inv-loop μ-loop → tie.After-read-part Inv-loop μ-loop
+part-read d = d .before .before .before .before .before .before .before .before .before .before .before
+
+abbrev fed : tie.After-struct-known2 Inv-loop μ-loop → tie.After-feed Inv-loop μ-loop
+fed c = c .before .before .before .before .before .before .before .before .before .before .before .before .before .before .before .before .before
+
+abbrev more : (g : tie.After-read-part Inv-loop μ-loop) → 0 < turn g .loop .turns
+more g = below-and 0 (turn g .loop .turns) (turn g .loop .more) (g .before .before .loop-test .taken)
+
 loop-holds : tie.Need-loop-holds Inv-loop μ-loop
 loop-holds c = (refl, refl, refl, refl, refl, refl, refl, search needs)
 
@@ -45,23 +58,17 @@ feed-requires c κs =
     (omega (arith, i .0, p .0), (omega (arith, i .3, p .1 .0), (omega (arith, i .4, p .1 .1), i .7)))
 
 sub-turns : tie.Need-sub-turns Inv-loop μ-loop
-sub-turns c =
-    let d = c .before .before .before .before .before .before .before .before .before .before .before .before .before .before .before .before .before .before .before .before .before .before .before .before .before .before .before .before .before .before in
-    let l = d .before in
-    omega (arith, below-and 0 (l .loop .turns) (l .loop .more) (d .loop-test .taken))
+sub-turns c = omega (arith, more (part-read (fed c)))
 
 loop-less : tie.Need-loop-less Inv-loop μ-loop
-loop-less c =
-    let d = c .before .before .before .before .before .before .before .before .before .before .before .before .before .before .before .before .before .before .before .before .before .before .before .before .before .before .before .before .before .before in
-    let l = d .before in
-    omega (arith, below-and 0 (l .loop .turns) (l .loop .more) (d .loop-test .taken))
+loop-less c = omega (arith, more (part-read (fed c)))
 
 loop-again : tie.Need-loop-again Inv-loop μ-loop
 loop-again c =
-    let d = c .before .before .before .before .before .before .before .before .before .before .before .before .before .before .before .before .before in
+    let d = fed c in
     let k = d .feed .kept .1 in
-    let g = d .before .before .before .before .before .before .before .before .before .before .before in
-    let i = g .before .before .before .loop .inv in (
+    let g = part-read d in
+    let i = turn g .loop .inv in (
       k .0 ∙ i .0,
       k .1 .0 ∙ i .1,
       k .1 .1 .0 ∙ i .2,
