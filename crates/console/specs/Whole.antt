@@ -5,9 +5,9 @@ use mathlib.Core.Bool.{cond}
 use mathlib.Core.List.{List}
 use lib.Dec.{ltb}
 use lib.ListN.{length, take}
-use Rattle.text.specs.declared.input.Reason.the-variants.{TooLong}
-use Rattle.text.specs.Writing.{Sheet, sheet, puts, writes, whole}
-use Rattle.text.specs.Errors.{errorLine}
+use Rattle.text_output.specs.declared.reason.Reason.the-variants.{TooLong}
+use Rattle.text_output.specs.Writing.{Sheet, sheet, puts, writes, whole}
+use Rattle.text_output.specs.Errors.{errorLine}
 use Rattle.script.specs.declared.runner.Machine.{Machine}
 use Rattle.script.specs.Running.{counted, session, runLine}
 

@@ -32,6 +32,13 @@ struct Stepped {
     open: bool,
 }
 
+// How many bytes were read, whether they are the last, and whether the input cannot be read on.
+struct Part {
+    n: usize,
+    last: bool,
+    failed: bool,
+}
+
 // Writes out what the buffer holds up to a position.
 fn flush(out: &[u8], at: usize) -> bool {
     if at <= out.len() {
@@ -126,7 +133,7 @@ fn step(
     }
 }
 
-// Runs the lines that end in a chunk.
+// Runs the lines that end in a chunk, as long as the output takes their answers.
 fn feed(
     mut m: Machine,
     keys: &mut [u64],
@@ -147,28 +154,52 @@ fn feed(
     let mut held = before;
     let mut from = 0;
     let mut at = 0;
-    while from < chunk.len() {
-        let got = text::gather(chunk, from, line, held);
+    let mut takes = true;
+    while (from < chunk.len()) & takes {
+        let got = text_input::gather(chunk, from, line, held);
         from = got.next;
         held = got.held;
         if got.ended {
             let done = step(m, keys, times, fields, records, ids, line, held, out, at);
             m = done.machine;
             at = done.at;
+            takes = done.open;
             held = 0;
-            if !done.open {
-                return Fed {
-                    machine: m,
-                    held,
-                    open: false,
-                };
-            }
         }
     }
+    let wrote = flush(out, at);
     Fed {
         machine: m,
         held,
-        open: flush(out, at),
+        open: takes & wrote,
+    }
+}
+
+// Reads a chunk. At the end of the input stands the end that a last line lacks. No signal is handled here, so that no read is
+// interrupted: one that fails is the last.
+fn read_part(chunk: &mut [u8], held: usize) -> Part
+    ensures { λ r. ⌜ r .n ≤ length (now (chunk .exit)) ⌝ }
+{
+    let got = libc::read(STDIN_FILENO, chunk);
+    if 0 < got {
+        return Part {
+            n: io::count(got, chunk),
+            last: false,
+            failed: false,
+        };
+    }
+    if (got < 0) | (held == 0) {
+        return Part {
+            n: 0,
+            last: true,
+            failed: got < 0,
+        };
+    }
+    text_output::put(chunk, 0, b'\n');
+    Part {
+        n: io::count(1, chunk),
+        last: true,
+        failed: false,
     }
 }
 
@@ -179,8 +210,7 @@ fn tell_failed(machine: Machine, out: &mut [u8]) -> bool {
     flush(out, end)
 }
 
-// Reads standard input to its end, in chunks, and runs its lines. The last one may lack its end. No signal is handled here, so that no
-// read is interrupted: one that fails ends the run.
+// Reads standard input to its end, in chunks, and runs its lines.
 fn run(
     machine: Machine,
     keys: &mut [u64],
@@ -190,40 +220,62 @@ fn run(
     ids: &mut [u8],
     line: &mut [u8],
     chunk: &mut [u8],
-    out: &mut [u8],
+    out: &mut [u8; OUT],
 )
     requires { ⌜ length (now keys) ≤ maxScenes ⌝ }
     requires { ⌜ length (now records) ≤ maxScenes ⌝ }
     requires { ⌜ length (now ids) ≤ maxScenes ⌝ }
-    requires { ⌜ mostHeld + longest ≤ length (now out) ⌝ }
 {
+    let room: &mut [u8] = out;
     let mut m = machine;
     let mut held = 0;
+    let mut more = true;
+    let mut failed = false;
     // Nothing says that the input ends: the turns are counted down, from a number that no run uses up.
     let mut turns = u64::MAX;
-    while 0 < turns {
-        let got = libc::read(STDIN_FILENO, chunk);
-        if got < 0 {
-            tell_failed(m, out);
-            return;
-        }
-        if got == 0 {
-            break;
-        }
-        let n = io::count(got, chunk);
+    while (0 < turns) & more {
+        let got = read_part(chunk, held);
+        let n = got.n;
         let part = &chunk[..n];
-        let fed = feed(m, keys, times, fields, records, ids, line, held, part, out);
+        let fed = feed(m, keys, times, fields, records, ids, line, held, part, room);
         m = fed.machine;
         held = fed.held;
-        if !fed.open {
-            return;
-        }
+        more = fed.open & !got.last;
+        failed = got.failed;
         turns -= 1;
     }
-    if 0 < held {
-        let last = step(m, keys, times, fields, records, ids, line, held, out, 0);
-        flush(out, last.at);
+    if failed {
+        tell_failed(m, room);
     }
+}
+
+// Lends the buffers of lines, input and output.
+fn buffered(
+    machine: Machine,
+    keys: &mut [u64],
+    times: &mut [u32],
+    fields: &mut [u8],
+    records: &mut [u64],
+    ids: &mut [u8],
+)
+    requires { ⌜ length (now keys) ≤ maxScenes ⌝ }
+    requires { ⌜ length (now records) ≤ maxScenes ⌝ }
+    requires { ⌜ length (now ids) ≤ maxScenes ⌝ }
+{
+    let mut line = [0u8; LINE];
+    let mut chunk = [0u8; CHUNK];
+    let mut out = [0u8; OUT];
+    run(
+        machine,
+        keys,
+        times,
+        fields,
+        records,
+        ids,
+        &mut line,
+        &mut chunk,
+        &mut out,
+    );
 }
 
 // scenebench: adds, stores and views on a table of at most 256 scenes. No contract can say what is read and written; that it ends and
@@ -234,19 +286,13 @@ pub fn bench() {
     let mut fields = [0u8; 33_024];
     let mut records = [0u64; 256];
     let mut ids = [0u8; 256];
-    let mut line = [0u8; LINE];
-    let mut chunk = [0u8; CHUNK];
-    let mut out = [0u8; OUT];
-    run(
+    buffered(
         Machine::new(false),
         &mut keys,
         &mut times,
         &mut fields,
         &mut records,
         &mut ids,
-        &mut line,
-        &mut chunk,
-        &mut out,
     );
 }
 
@@ -257,18 +303,12 @@ pub fn trace() {
     let mut fields = [0u8; 132_096];
     let mut records = [0u64; 1024];
     let mut ids = [0u8; 1024];
-    let mut line = [0u8; LINE];
-    let mut chunk = [0u8; CHUNK];
-    let mut out = [0u8; OUT];
-    run(
+    buffered(
         Machine::new(true),
         &mut keys,
         &mut times,
         &mut fields,
         &mut records,
         &mut ids,
-        &mut line,
-        &mut chunk,
-        &mut out,
     );
 }

@@ -1,29 +1,18 @@
 // Makes every call on tables that are not sound, each in one way only, and says what was answered and whether anything changed. Beside
 // them a sound table, and one that holds no sense past its counts, which is sound too.
+use damaged_calls::CALLS;
+use damaged_calls::key;
+use damaged_calls::make;
 use libc::STDOUT_FILENO;
-use requests::CopyRequest;
-use requests::GroupScene;
-use requests::Membership;
-use scenes::Applied;
-use scenes::ScenesState;
-use scenes::Transition;
-use words::GroupKey;
-use words::SceneId;
-use words::SceneKey;
+use state::ScenesState;
 ghost use Prim.Native.Nat.{_≤_};
-ghost use lib.ListN.{length};
 
 const ROWS: u8 = 14;
 
-const CALLS: u8 = 18;
+// Room for the N of row 1, which is one more than a table may have, and for the field bytes of as many entries.
+const ROOM: usize = 1025;
 
-// What a call answered, with the head that it handed back, and whether it wrote to a scene list buffer.
-struct Done {
-    status: u8,
-    save: bool,
-    listed: bool,
-    state: ScenesState,
-}
+const FIELD_ROOM: usize = 132_225;
 
 // What a row shows of a call.
 struct Shown {
@@ -50,15 +39,6 @@ fn head(row: u8) -> ScenesState {
         _ => {}
     }
     state
-}
-
-fn key() -> SceneKey {
-    SceneKey {
-        fabric: 1,
-        endpoint: 1,
-        group: 0,
-        scene: 5,
-    }
 }
 
 // What stands past the counts.
@@ -109,18 +89,18 @@ fn field_at(row: u8, i: usize) -> u8 {
     }
 }
 
-fn fill_keys(row: u8, keys: &mut [u64]) {
-    let mut i = 0;
-    while i < keys.len() {
-        keys[i] = key_at(row, i);
-        i += 1;
+// The words of one of the two slices of words, by position.
+fn word_at(row: u8, recorded: bool, i: usize) -> u64 {
+    if recorded {
+        return record_at(row, i);
     }
+    key_at(row, i)
 }
 
-fn fill_records(row: u8, records: &mut [u64]) {
+fn fill_words(row: u8, recorded: bool, words: &mut [u64]) {
     let mut i = 0;
-    while i < records.len() {
-        records[i] = record_at(row, i);
+    while i < words.len() {
+        words[i] = word_at(row, recorded, i);
         i += 1;
     }
 }
@@ -133,21 +113,10 @@ fn fill_fields(row: u8, fields: &mut [u8]) {
     }
 }
 
-fn keys_kept(row: u8, keys: &[u64]) -> bool {
+fn words_kept(row: u8, recorded: bool, words: &[u64]) -> bool {
     let mut i = 0;
-    while i < keys.len() {
-        if keys[i] != key_at(row, i) {
-            return false;
-        }
-        i += 1;
-    }
-    true
-}
-
-fn records_kept(row: u8, records: &[u64]) -> bool {
-    let mut i = 0;
-    while i < records.len() {
-        if records[i] != record_at(row, i) {
+    while i < words.len() {
+        if words[i] != word_at(row, recorded, i) {
             return false;
         }
         i += 1;
@@ -178,211 +147,18 @@ fn times_kept(times: &[u32]) -> bool {
     true
 }
 
-// Every byte of a scene list buffer is 255 before a call, which is no scene's id.
-fn ids_kept(ids: &[u8]) -> bool {
-    let mut i = 0;
-    while i < ids.len() {
-        if ids[i] != SceneId::RESERVED_SCENE_ID {
-            return false;
-        }
-        i += 1;
-    }
-    true
-}
-
-fn outcome(o: scenes::Outcome) -> Done {
-    let state = o.state;
-    Done {
-        status: o.status,
-        save: o.save,
-        listed: false,
-        state,
-    }
-}
-
-fn read(status: u8, state: ScenesState) -> Done {
-    Done {
-        status,
-        save: false,
-        listed: false,
-        state,
-    }
-}
-
-fn group() -> GroupKey {
-    GroupKey {
-        fabric: 1,
-        endpoint: 1,
-        group: 0,
-    }
-}
-
-fn copied() -> CopyRequest {
-    let from = GroupScene { group: 0, scene: 5 };
-    let to = GroupScene { group: 1, scene: 6 };
-    CopyRequest {
-        fabric: 1,
-        endpoint: 1,
-        mode: 0,
-        from,
-        to,
-    }
-}
-
-// The commands that change the table.
-fn command(
-    call: u8,
-    state: ScenesState,
-    keys: &mut [u64],
-    times: &mut [u32],
-    fields: &mut [u8],
-    records: &mut [u64],
-) -> Done {
-    let yes = Membership::Yes;
-    let applied = Applied::Yes;
-    match call {
-        0 => outcome(state.add_scene(keys, times, fields, records, key(), 9, yes, b"", b"\x18")),
-        1 => outcome(state.store_scene(keys, times, fields, records, key(), yes, b"")),
-        2 => outcome(state.remove_scene(keys, times, fields, records, key(), yes)),
-        3 => outcome(state.remove_all_scenes(keys, times, fields, records, group(), yes)),
-        4 => outcome(state.copy_scene(keys, times, fields, records, copied(), yes, yes)),
-        _ => outcome(state.recall_scene(keys, times, fields, records, key(), yes, applied)),
-    }
-}
-
-// The notice and the lifecycle.
-fn event(
-    call: u8,
-    state: ScenesState,
-    keys: &mut [u64],
-    times: &mut [u32],
-    fields: &mut [u8],
-    records: &mut [u64],
-) -> Done {
-    match call {
-        6 => outcome(state.scenable_attribute_changed(keys, times, fields, records, 1)),
-        7 => outcome(state.remove_for_fabric(keys, times, fields, records, 1)),
-        8 => outcome(state.factory_reset(keys, times, fields, records)),
-        9 => outcome(state.startup(keys, times, fields, records)),
-        10 => outcome(state.fail_safe_commit(keys, times, fields, records)),
-        _ => outcome(state.fail_safe_expiry(keys, times, fields, records)),
-    }
-}
-
-// The number of a table that is not sound, or 0.
-fn sound_status(sound: bool) -> u8 {
-    if sound {
-        return words::Status::SUCCESS;
-    }
-    words::Fault::UNSOUND
-}
-
-fn list(state: ScenesState, keys: &[u64], times: &[u32], fields: &[u8], records: &[u64]) -> Done {
-    let yes = Membership::Yes;
-    let mut ids = [SceneId::RESERVED_SCENE_ID; 3];
-    let read = state.get_scene_membership(keys, times, fields, records, &mut ids, group(), yes);
-    let after = read.state;
-    Done {
-        status: read.status,
-        save: false,
-        listed: !ids_kept(&ids),
-        state: after,
-    }
-}
-
-// The reads.
-fn query(
-    call: u8,
-    state: ScenesState,
-    keys: &[u64],
-    times: &[u32],
-    fields: &[u8],
-    records: &[u64],
-) -> Done {
-    let yes = Membership::Yes;
-    let stored = Transition::Stored;
-    match call {
-        12 => {
-            let found = state.view_scene(keys, times, fields, records, key(), yes);
-            let after = found.state;
-            read(found.status, after)
-        }
-        13 => {
-            let found = state.recall_lookup(keys, times, fields, records, key(), yes, stored);
-            let after = found.state;
-            read(found.status, after)
-        }
-        14 => list(state, keys, times, fields, records),
-        _ => {
-            let row = state.read_fabric_scene_info(keys, times, fields, records, 1, 1, false);
-            let after = row.state;
-            read(row.status, after)
-        }
-    }
-}
-
-// The two calls that answer no status. The field bytes of the second entry are one byte in a sound table and none in any other.
-fn test(
-    call: u8,
-    state: ScenesState,
-    keys: &[u64],
-    times: &[u32],
-    fields: &[u8],
-    records: &[u64],
-) -> Done {
-    if call == 16 {
-        let sound = state.is_sound(keys, times, fields, records);
-        return read(sound_status(sound), state);
-    }
-    let bytes = state.field_bytes(keys, times, fields, records, 1);
-    read(sound_status(bytes.len() == 1), state)
-}
-
-fn make(
-    call: u8,
-    state: ScenesState,
-    keys: &mut [u64],
-    times: &mut [u32],
-    fields: &mut [u8],
-    records: &mut [u64],
-) -> Done {
-    if call < 6 {
-        return command(call, state, keys, times, fields, records);
-    }
-    if call < 12 {
-        return event(call, state, keys, times, fields, records);
-    }
-    if call < 16 {
-        return query(call, state, keys, times, fields, records);
-    }
-    test(call, state, keys, times, fields, records)
-}
-
-// Makes a call on the memory, one slice of which is a little too short in rows 4 to 7.
-fn lend(
-    row: u8,
-    call: u8,
-    keys: &mut [u64],
-    times: &mut [u32],
-    fields: &mut [u8],
-    records: &mut [u64],
-) -> Done
-    requires { ⌜ (2 ≤ length (now keys)) × (2 ≤ length (now times)) × (386 ≤ length (now fields)) × (2 ≤ length (now records)) ⌝ }
-{
-    match row {
-        4 => make(call, head(row), &mut keys[..2], times, fields, records),
-        5 => make(call, head(row), keys, &mut times[..2], fields, records),
-        6 => make(call, head(row), keys, times, &mut fields[..386], records),
-        7 => make(call, head(row), keys, times, fields, &mut records[..2]),
-        _ => make(call, head(row), keys, times, fields, records),
-    }
-}
-
 fn same_head(a: ScenesState, b: ScenesState) -> bool {
     (a.size == b.size)
         & (a.entries == b.entries)
         & (a.recorded == b.recorded)
         & (a.dataver == b.dataver)
+}
+
+fn kept(row: u8, keys: &[u64], times: &[u32], fields: &[u8], records: &[u64]) -> bool {
+    words_kept(row, false, keys)
+        & times_kept(times)
+        & fields_kept(row, fields)
+        & words_kept(row, true, records)
 }
 
 // A call on the memory of a row, and whether it left head, memory and scene list buffer as they were, without a save mark.
@@ -393,57 +169,107 @@ fn show(
     times: &mut [u32],
     fields: &mut [u8],
     records: &mut [u64],
-) -> Shown
-    requires { ⌜ (2 ≤ length (now keys)) × (2 ≤ length (now times)) × (386 ≤ length (now fields)) × (2 ≤ length (now records)) ⌝ }
-{
-    fill_keys(row, keys);
+) -> Shown {
+    fill_words(row, false, keys);
     fill_fields(row, fields);
-    fill_records(row, records);
-    let done = lend(row, call, keys, times, fields, records);
+    fill_words(row, true, records);
+    let done = make(call, head(row), keys, times, fields, records);
     let after = done.state;
-    let kept = keys_kept(row, keys)
-        & times_kept(times)
-        & fields_kept(row, fields)
-        & records_kept(row, records);
+    let kept = kept(row, keys, times, fields, records) & same_head(after, head(row));
     Shown {
         status: done.status,
-        changed: !(kept & same_head(after, head(row)) & !done.save & !done.listed),
+        changed: !kept | done.save | done.listed,
     }
 }
 
-// A call on memory of its own.
+// How much of a slice is lent: all of it, or a little less than three entries take up if it is this row's that is too short.
+fn lent(row: u8, short: u8, few: usize, all: usize) -> usize
+    requires { ⌜ few ≤ all ⌝ }
+    ensures { λ r. ⌜ r ≤ all ⌝ }
+{
+    if row == short {
+        return few;
+    }
+    all
+}
+
+// A call on memory of its own, one slice of which is too short in rows 4 to 7.
 fn seen(row: u8, call: u8) -> Shown {
-    let mut keys = [0u64; 1025];
-    let mut times = [0u32; 1025];
-    let mut fields = [0u8; 132_225];
-    let mut records = [0u64; 1025];
-    show(row, call, &mut keys, &mut times, &mut fields, &mut records)
+    let mut keys = [0u64; ROOM];
+    let mut times = [0u32; ROOM];
+    let mut fields = [0u8; FIELD_ROOM];
+    let mut records = [0u64; ROOM];
+    let k = lent(row, 4, 2, ROOM);
+    let t = lent(row, 5, 2, ROOM);
+    let f = lent(row, 6, 386, FIELD_ROOM);
+    let r = lent(row, 7, 2, ROOM);
+    show(
+        row,
+        call,
+        &mut keys[..k],
+        &mut times[..t],
+        &mut fields[..f],
+        &mut records[..r],
+    )
 }
 
-fn put_name(out: &mut [u8], at: usize, row: u8) -> usize {
-    match row {
-        0 => text::put_text(out, at, b"sound:"),
-        1 => text::put_text(out, at, b"N 1,025:"),
-        2 => text::put_text(out, at, b"more entries than N:"),
-        3 => text::put_text(out, at, b"more records than N:"),
-        4 => text::put_text(out, at, b"keys too short:"),
-        5 => text::put_text(out, at, b"times too short:"),
-        6 => text::put_text(out, at, b"fields too short:"),
-        7 => text::put_text(out, at, b"records too short:"),
-        8 => text::put_text(out, at, b"key word of 2^48:"),
-        9 => text::put_text(out, at, b"entry of fabric 0:"),
-        10 => text::put_text(out, at, b"129 field bytes:"),
-        11 => text::put_text(out, at, b"record word of 2^49:"),
-        12 => text::put_text(out, at, b"record of fabric 0:"),
-        _ => text::put_text(out, at, b"no sense past the counts:"),
+// The number of the name that comes after a byte: a name ends in a colon.
+fn after(name: u8, b: u8) -> u8 {
+    if b != b':' {
+        return name;
     }
+    if name < ROWS {
+        return name + 1;
+    }
+    name
+}
+
+fn put_if(out: &mut [u8], at: usize, yes: bool, b: u8) -> usize {
+    if yes {
+        return text_output::put(out, at, b);
+    }
+    at
+}
+
+// Puts one of the names, which stand one behind another.
+fn put_nth(out: &mut [u8], at: usize, row: u8, names: &[u8]) -> usize {
+    let mut next = at;
+    let mut name = 0;
+    let mut i = 0;
+    while i < names.len() {
+        let b = names[i];
+        next = put_if(out, next, name == row, b);
+        name = after(name, b);
+        i += 1;
+    }
+    next
+}
+
+// The names of the rows, in their order.
+fn put_name(out: &mut [u8], at: usize, row: u8) -> usize {
+    let names = b"\
+        sound:\
+        N 1,025:\
+        more entries than N:\
+        more records than N:\
+        keys too short:\
+        times too short:\
+        fields too short:\
+        records too short:\
+        key word of 2^48:\
+        entry of fabric 0:\
+        129 field bytes:\
+        record word of 2^49:\
+        record of fabric 0:\
+        no sense past the counts:";
+    put_nth(out, at, row, names)
 }
 
 // A status, with a mark behind it if something changed.
 fn put_shown(out: &mut [u8], at: usize, shown: Shown) -> usize {
-    let next = text::put_status(out, at, shown.status);
+    let next = text_output::put_status(out, at, shown.status);
     if shown.changed {
-        return text::put(out, next, b'*');
+        return text_output::put(out, next, b'*');
     }
     next
 }
@@ -456,7 +282,7 @@ fn put_row(out: &mut [u8], at: usize, row: u8) -> usize {
         next = put_shown(out, next, seen(row, call));
         call += 1;
     }
-    text::end_line(out, next)
+    text_output::end_line(out, next)
 }
 
 fn print_row(row: u8) {
@@ -470,7 +296,9 @@ fn print_row(row: u8) {
 fn main() {
     io::write_all(
         STDOUT_FILENO,
-        b"add, store, remove, remove all, copy, recall, notice, fabric removal, factory reset, startup, fail-safe commit, fail-safe expiry, view, recall's lookup, membership, info, is_sound, field_bytes; * something changed\n",
+        b"add, store, remove, remove all, copy, recall, notice, fabric removal, \
+          factory reset, startup, fail-safe commit, fail-safe expiry, view, recall's lookup, \
+          membership, info, is_sound, field_bytes; * something changed\n",
     );
     let mut row = 0;
     while row < ROWS {

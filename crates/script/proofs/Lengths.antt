@@ -13,12 +13,12 @@ use Rattle.slots.specs.Slots.{lengthAt, fieldsAt}
 use Rattle.scenes.specs.Sound.{sound}
 use Rattle.scenes.proofs.Laws.{sound-length}
 use Rattle.words.specs.Words.{fabricOf, endpointOf, groupOf, sceneOf, keyOfRecord, isValid}
-use Rattle.text.specs.declared.input.Reason.{Reason}
-use Rattle.text.specs.declared.input.Reason.the-variants.{Unknown, Missing, TooMany, NotANumber, TooLarge, NotHex, NotDigits, NoTable, TooLong, ReadFailed}
-use Rattle.text.specs.Errors.{reasonText, errorLine}
-use Rattle.text.specs.Writing.{Sheet, puts, writes, writesBelow, Puts, digitsIn, decimal, number, newline, flagText, hexByte, hexText, bytesText, isFault, statusText}
-use Rattle.text.proofs.Writing.{decimal-one}
-use Rattle.text.proofs.Whole.{total, puts-text, puts-nothing, puts-then, puts-most, puts-all, puts-below, number-length}
+use Rattle.text_output.specs.declared.reason.Reason.{Reason}
+use Rattle.text_output.specs.declared.reason.Reason.the-variants.{Unknown, Missing, TooMany, NotANumber, TooLarge, NotHex, NotDigits, NoTable, TooLong, ReadFailed}
+use Rattle.text_output.specs.Errors.{reasonText, errorLine}
+use Rattle.text_output.specs.Writing.{Sheet, puts, writes, writesBelow, Puts, digitsIn, decimal, number, newline, flagText, hexByte, hexText, bytesText, isFault, statusText}
+use Rattle.text_output.proofs.Writing.{decimal-one}
+use Rattle.text_output.proofs.Whole.{total, puts-text, puts-nothing, puts-then, puts-most, puts-all, puts-below, number-length}
 use Rattle.scenes.specs.declared.ScenesState.{ScenesState}
 use Rattle.scenes.specs.Table.{Table}
 use Rattle.scenes.specs.Reads.{fieldBytes}

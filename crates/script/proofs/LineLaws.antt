@@ -10,18 +10,18 @@ use lib.ListN.{length, getD, set, take, drop, take-append-drop, length-append, l
 use lib.Seq.{length-take-le, take-append-seam, take-take, take-add, drop-drop, drop-cons, take-at, drop-at, getD-set-same, getD-set-other, getD-drop}
 use borrow.Author.Tests.{eqb-true, eq-eqb, ne-eqb}
 use borrow.Rule.Slice.PartMut.{midOf, mid-len}
-use Rattle.text.specs.declared.input.Word.{Word}
-use Rattle.text.specs.declared.input.Reason.{Reason}
-use Rattle.text.specs.declared.input.Reason.the-variants.{Unknown, TooMany}
-use Rattle.text.specs.declared.input.Span.{Span}
-use Rattle.text.specs.Reading.{blank, inWord, leading, wordFrom, numberOf, Spelled, Bytes, Refused, orDash, digitBytes, hexPairs, turned, spelledIn}
-use Rattle.text.proofs.Reading.{word-start, word-end}
+use Rattle.text_input.specs.declared.input.Word.{Word}
+use Rattle.text_output.specs.declared.reason.Reason.{Reason}
+use Rattle.text_output.specs.declared.reason.Reason.the-variants.{Unknown, TooMany}
+use Rattle.text_input.specs.declared.input.Span.{Span}
+use Rattle.text_input.specs.Reading.{blank, inWord, leading, wordFrom, numberOf, Spelled, Bytes, Refused, orDash, digitBytes, hexPairs, turned, spelledIn}
+use Rattle.text_input.proofs.Reading.{word-start, word-end}
 use Rattle.words.specs.Below.{positions}
 use Rattle.script.specs.declared.reader.Kind.{Kind}
 use Rattle.script.specs.declared.reader.Kind.the-variants.{End, Byte, Short, Long, Member, Flag, Size, Digits, Hex, Override, Length}
 use Rattle.script.specs.declared.reader.Reading.{Reading}
 use Rattle.script.specs.Lines.{Meaning, Number, Text, Unclear, numeral, spelling, overrideOf, mostScenes, spells, wordSays, wordAnswer, wordLeft, readAs, meaning, blanks, afterBlanks, firstWord, behindWord, Said, Nothing, Wrong, Call, ahead, follow, wordsSay, letterSays, lineSays, known, oneOf, kindsOf, understood, wordsLeft, lineLeft, ReadsNext, wordRead}
-use Rattle.text.specs.declared.input.Word.the-variants as word
+use Rattle.text_input.specs.declared.input.Word.the-variants as word
 
 -- ---- a word
 

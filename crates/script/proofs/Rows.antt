@@ -2,8 +2,8 @@
 use mathlib.Core.Path.{_≡_, refl}
 use mathlib.Core.Bool.{true, false}
 use mathlib.Core.List.{[], _∷_}
-use Rattle.text.specs.declared.input.Reason.the-variants.{Unknown, Missing, TooMany, TooLarge}
-use Rattle.text.specs.Reading.{blank, leading, digitValue, numberFrom, numberOf, same, orDash, hexValue, allPairs, pairBytes}
+use Rattle.text_output.specs.declared.reason.Reason.the-variants.{Unknown, Missing, TooMany, TooLarge}
+use Rattle.text_input.specs.Reading.{blank, leading, digitValue, numberFrom, numberOf, same, orDash, hexValue, allPairs, pairBytes}
 use Rattle.script.specs.Lines.{oneOf, known, kindsOf, Number, Text, Nothing, Wrong, Call, wordsSay, letterSays, lineSays, wordsLeft, lineLeft}
 
 -- a blank and a tab

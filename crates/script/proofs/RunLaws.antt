@@ -11,8 +11,8 @@ use Rattle.scenes.specs.Table.{tableOf}
 use Rattle.script.specs.declared.calls.Answer.{Answer}
 use Rattle.script.specs.declared.runner.Machine.{Machine}
 use Rattle.script.specs.declared.runner.Ran.{Ran}
-use Rattle.text.specs.declared.input.Reason.the-variants.{NoTable}
-use Rattle.text.specs.Writing.{Sheet, sheet, writes}
+use Rattle.text_output.specs.declared.reason.Reason.the-variants.{NoTable}
+use Rattle.text_output.specs.Writing.{Sheet, sheet, writes}
 use Rattle.script.specs.Answers.{answerLine, sizeLine, tableLines}
 use Rattle.script.specs.Calls.{doneOf, Called, calledOf, valueAt, call, command, query, hostWrite, event, add, store, view, remove, removeAll, copy, recall, listIn, list, info, setVersion, pushEntry, pushRecord}
 use Rattle.script.specs.Lines.{oneOf, kindsOf, Meaning, wordRead}

@@ -11,7 +11,7 @@ use Rattle.script.specs.declared.calls.Row.{Row}
 use Rattle.script.specs.declared.calls.Tail.{Tail}
 use Rattle.script.specs.declared.calls.Tail.the-variants.{Nothing, Scene, Ids, NoRow, Info}
 use Rattle.script.specs.declared.calls.Answer.{Answer}
-use Rattle.text.specs.Writing.{Sheet, puts, writes, writesBelow, newline, number, spaced, flagText, bytesText, statusText}
+use Rattle.text_output.specs.Writing.{Sheet, puts, writes, writesBelow, newline, number, spaced, flagText, bytesText, statusText}
 
 -- ---- the size of a table
 

@@ -7,16 +7,16 @@ use mathlib.Core.List.{List, [], _∷_, _++_, map}
 use lib.Dec.{eqb}
 use lib.ListN.{length, getD, take, drop}
 use Rattle.words.specs.Below.{positions}
-use Rattle.text.specs.declared.input.Reason.{Reason}
-use Rattle.text.specs.declared.input.Word.{Word}
-use Rattle.text.specs.Reading.{blank, inWord, leading, wordFrom, numberOf, same, Spelled, Bytes, Refused, orDash, hexPairs, digitBytes, Turned, turned, laid}
+use Rattle.text_output.specs.declared.reason.Reason.{Reason}
+use Rattle.text_input.specs.declared.input.Word.{Word}
+use Rattle.text_input.specs.Reading.{blank, inWord, leading, wordFrom, numberOf, same, Spelled, Bytes, Refused, orDash, hexPairs, digitBytes, Turned, turned, laid}
 use Rattle.script.specs.declared.reader.Kind.{Kind}
 use Rattle.script.specs.declared.reader.Kind.the-variants.{End, Byte, Short, Long, Member, Flag, Size, Digits, Hex, Override, Length}
 use Rattle.script.specs.declared.reader.Verdict.{Verdict}
 use Rattle.script.specs.declared.reader.Reading.{Reading}
 use Rattle.script.specs.declared.reader.Line.{Line}
-use Rattle.text.specs.declared.input.Reason.the-variants as reason
-use Rattle.text.specs.declared.input.Word.the-variants as word
+use Rattle.text_output.specs.declared.reason.Reason.the-variants as reason
+use Rattle.text_input.specs.declared.input.Word.the-variants as word
 use Rattle.script.specs.declared.reader.Verdict.the-variants as verdict
 
 -- ---- the letters

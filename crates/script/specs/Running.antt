@@ -10,10 +10,10 @@ use Rattle.scenes.specs.declared.ScenesState.{ScenesState}
 use Rattle.scenes.specs.Table.{Table, newState}
 use Rattle.script.specs.declared.runner.Machine.{Machine}
 use Rattle.script.specs.declared.runner.Ran.{Ran}
-use Rattle.text.specs.declared.input.Reason.{Reason}
-use Rattle.text.specs.declared.input.Reason.the-variants.{NoTable}
-use Rattle.text.specs.Writing.{Sheet, sheet, writes}
-use Rattle.text.specs.Errors.{errorLine}
+use Rattle.text_output.specs.declared.reason.Reason.{Reason}
+use Rattle.text_output.specs.declared.reason.Reason.the-variants.{NoTable}
+use Rattle.text_output.specs.Writing.{Sheet, sheet, writes}
+use Rattle.text_output.specs.Errors.{errorLine}
 use Rattle.script.specs.Answers.{sizeLine, answerLine, tableLines}
 use Rattle.script.specs.Lines.{Meaning, Number, Text, Unclear, Said, Nothing, Wrong, Call, lineSays, lineLeft}
 use Rattle.script.specs.Calls.{Called, answerOf, valueAt, call}

@@ -3,20 +3,20 @@ use crate::calls::Answer;
 use crate::calls::Row;
 use crate::calls::Tail;
 use scenes::ScenesState;
-use text::end_line;
-use text::put;
-use text::put_bytes;
-use text::put_flag;
-use text::put_number;
-use text::put_status;
-use text::put_text;
+use text_output::end_line;
+use text_output::put;
+use text_output::put_bytes;
+use text_output::put_flag;
+use text_output::put_number;
+use text_output::put_status;
+use text_output::put_text;
 use words::least;
 ghost use mathlib.Core.Path.{_≡_};
 ghost use mathlib.Core.List.{[], _∷_};
 ghost use Prim.Native.Nat.{min};
 ghost use lib.ListN.{length, getD};
 ghost use Rattle.scenes.specs.Table.{tableOf};
-ghost use Rattle.text.specs.Writing.{sheet, puts, writes, writesBelow, number};
+ghost use Rattle.text_output.specs.Writing.{sheet, puts, writes, writesBelow, number};
 ghost use Rattle.script.specs.Answers.{sizeWord, sizeLine, headTexts, rowTexts, sceneTexts, listTexts, tailOf, answerLine, keyTexts, entryTexts, entryLine, countsLine, recordLine, tableLines};
 
 // `N` in a trace, else `scenes`.

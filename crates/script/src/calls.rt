@@ -11,7 +11,7 @@ use scenes::Outcome;
 use scenes::SceneRead;
 use scenes::ScenesState;
 use scenes::Transition;
-use text::part;
+use text_input::part;
 use words::Fault;
 use words::GroupKey;
 use words::Limits;

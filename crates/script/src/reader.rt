@@ -1,16 +1,16 @@
 // A line of a script: a letter and the words that belong to it.
-use text::Reason;
-use text::Word;
-use text::digits;
-use text::hex;
-use text::next_word;
-use text::number;
-use text::same;
+use text_input::Word;
+use text_input::digits;
+use text_input::hex;
+use text_input::next_word;
+use text_input::number;
+use text_input::same;
+use text_output::Reason;
 ghost use Prim.Native.Nat.{_≤_};
 ghost use mathlib.Core.Path.{_≡_};
 ghost use mathlib.Core.List.{_++_};
 ghost use lib.ListN.{length, take, drop};
-ghost use Rattle.text.specs.Reading.{turned};
+ghost use Rattle.text_input.specs.Reading.{turned};
 ghost use Rattle.script.specs.Lines.{oneOf, known, sceneAnd, kindsOf, overrideOf, mostScenes, readAs, wordSays, wordsSay, wordsLeft, lineSays, lineLeft, ReadsNext, ReadsLine};
 
 // The kinds of words.

@@ -4,47 +4,54 @@ use borrow.Author.Needs.{needs}
 use Rattle.damaged.proofs.show.Statement.{statement}
 use Rattle.damaged.proofs.show.Tie as tie
 
-fill-keys-requires : tie.Need-fill-keys-requires
-fill-keys-requires c κs = search needs
+-- the places that the lengths are known from: behind the call, and behind each filling
+abbrev called : tie.After-struct-known2 → tie.After-make
+called c = c .before .before .before .before .before .before .before .before .before .before .before .before .before .before .before .before .before .before
+
+abbrev filled : tie.After-struct-known2 → tie.After-fill-words2
+filled c = called c .before .before .before .before .before .before .before .before
+
+abbrev fields-filled : tie.After-struct-known2 → tie.After-fill-fields
+fields-filled c = filled c .before .before .before .before
+
+abbrev keys-filled : tie.After-struct-known2 → tie.After-fill-words
+keys-filled c = fields-filled c .before .before .before .before
+
+fill-words-requires : tie.Need-fill-words-requires
+fill-words-requires c κs = search needs
 
 fill-fields-requires : tie.Need-fill-fields-requires
 fill-fields-requires c κs = search needs
 
-fill-records-requires : tie.Need-fill-records-requires
-fill-records-requires c κs = search needs
-
-lend-requires : tie.Need-lend-requires
-lend-requires c κs = search needs
-
-keys-kept-requires : tie.Need-keys-kept-requires
-keys-kept-requires c κs = search needs
-
-times-kept-requires : tie.Need-times-kept-requires
-times-kept-requires c κs = search needs
-
-fields-kept-requires : tie.Need-fields-kept-requires
-fields-kept-requires c κs = search needs
-
-records-kept-requires : tie.Need-records-kept-requires
-records-kept-requires c κs = search needs
+fill-words-requires-2 : tie.Need-fill-words-requires-2
+fill-words-requires-2 c κs = search needs
 
 head-requires : tie.Need-head-requires
 head-requires c κs = search needs
+
+make-requires : tie.Need-make-requires
+make-requires c κs = search needs
+
+kept-requires : tie.Need-kept-requires
+kept-requires c κs = search needs
+
+head-requires-2 : tie.Need-head-requires-2
+head-requires-2 c κs = search needs
 
 same-head-requires : tie.Need-same-head-requires
 same-head-requires c κs = search needs
 
 same-length : tie.Need-same-length
-same-length c = c .before .before .before .before .before .before .before .before .before .before .before .before .before .before .before .before .before .before .before .before .before .lend .kept .1 .1 .0 ∙ c .before .before .before .before .before .before .before .before .before .before .before .before .before .before .before .before .before .before .before .before .before .before .before .before .before .before .before .before .before .before .before .before .before .before .before .before .fill-keys .kept .1 .0
+same-length c = called c .make .kept .1 .1 .0 ∙ keys-filled c .fill-words .kept .1 .1 .0
 
 same-length-2 : tie.Need-same-length-2
-same-length-2 c = c .before .before .before .before .before .before .before .before .before .before .before .before .before .before .before .before .before .before .before .before .before .lend .kept .1 .1 .1 .0
+same-length-2 c = called c .make .kept .1 .1 .1 .0
 
 same-length-3 : tie.Need-same-length-3
-same-length-3 c = c .before .before .before .before .before .before .before .before .before .before .before .before .before .before .before .before .before .before .before .before .before .lend .kept .1 .1 .1 .1 .0 ∙ c .before .before .before .before .before .before .before .before .before .before .before .before .before .before .before .before .before .before .before .before .before .before .before .before .before .before .before .before .before .before .before .before .fill-fields .kept .1 .0
+same-length-3 c = called c .make .kept .1 .1 .1 .1 .0 ∙ fields-filled c .fill-fields .kept .1 .0
 
 same-length-4 : tie.Need-same-length-4
-same-length-4 c = c .before .before .before .before .before .before .before .before .before .before .before .before .before .before .before .before .before .before .before .before .before .lend .kept .1 .1 .1 .1 .1 .0 ∙ c .before .before .before .before .before .before .before .before .before .before .before .before .before .before .before .before .before .before .before .before .before .before .before .before .before .before .before .before .fill-records .kept .1 .0
+same-length-4 c = called c .make .kept .1 .1 .1 .1 .1 .0 ∙ filled c .fill-words2 .kept .1 .1 .0
 
 returns : tie.Need-returns
 returns c = search needs
@@ -53,15 +60,13 @@ pub show-spec : {M : Type 1} → statement M
 show-spec =
     tie.close
     (tie.spec
-    fill-keys-requires
+    fill-words-requires
     fill-fields-requires
-    fill-records-requires
-    lend-requires
-    keys-kept-requires
-    times-kept-requires
-    fields-kept-requires
-    records-kept-requires
+    fill-words-requires-2
     head-requires
+    make-requires
+    kept-requires
+    head-requires-2
     same-head-requires
     same-length
     same-length-2

@@ -1,7 +1,7 @@
 -- `script::answers::put_answer` meets its contract. Assumes nothing.
 use mathlib.Core.Path.{ap, _∙_}
 use Rattle.scenes.specs.Table.{tableOf}
-use Rattle.text.specs.Writing.{puts}
+use Rattle.text_output.specs.Writing.{puts}
 use Rattle.script.specs.Answers.{tailOf, answerLine}
 use borrow.Author.Needs.{needs}
 use Rattle.script.proofs.answers.put_answer.Statement.{statement}

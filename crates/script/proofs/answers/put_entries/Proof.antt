@@ -4,9 +4,9 @@ use mathlib.Core.Path.{_≡_, refl, sym, ap, _∙_}
 use native.Mathlib.Omega.{arith}
 use lib.ListN.{length}
 use Rattle.scenes.specs.Table.{tableOf}
-use Rattle.text.specs.Writing.{sheet, writes, writesBelow}
+use Rattle.text_output.specs.Writing.{sheet, writes, writesBelow}
 use Rattle.script.specs.Answers.{entryLine}
-use Rattle.text.proofs.Writing.{below-none, below-more}
+use Rattle.text_output.proofs.Writing.{below-none, below-more}
 use Rattle.script.proofs.answers.put_entries.Statement.{statement}
 use Rattle.script.proofs.answers.put_entries.Tie as tie
 

@@ -1,6 +1,6 @@
 -- `script::answers::put_entry` meets its contract. Assumes nothing.
 use mathlib.Core.Path.{ap, _∙_}
-use Rattle.text.specs.Writing.{puts, writes}
+use Rattle.text_output.specs.Writing.{puts, writes}
 use Rattle.script.specs.Answers.{keyTexts}
 use borrow.Author.Needs.{needs}
 use Rattle.script.proofs.answers.put_entry.Statement.{statement}

@@ -1,6 +1,6 @@
 -- `script::answers::put_entry_at` meets its contract. Assumes nothing.
 use mathlib.Core.Path.{_∙_}
-use Rattle.text.specs.Writing.{sheet, writes}
+use Rattle.text_output.specs.Writing.{sheet, writes}
 use Rattle.script.specs.Answers.{entryTexts}
 use borrow.Author.Needs.{needs}
 use Rattle.script.proofs.answers.put_entry_at.Statement.{statement}

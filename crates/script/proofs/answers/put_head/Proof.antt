@@ -1,7 +1,7 @@
 -- `script::answers::put_head` meets its contract. Assumes nothing.
 use mathlib.Core.Path.{sym, ap, _∙_}
-use Rattle.text.specs.Writing.{puts, writes}
-use Rattle.text.proofs.Writing.{puts-one}
+use Rattle.text_output.specs.Writing.{puts, writes}
+use Rattle.text_output.proofs.Writing.{puts-one}
 use borrow.Author.Needs.{needs}
 use Rattle.script.proofs.answers.put_head.Statement.{statement}
 use Rattle.script.proofs.answers.put_head.Tie as tie

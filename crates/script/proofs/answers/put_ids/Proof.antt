@@ -4,8 +4,8 @@ use mathlib.Core.Path.{_≡_, refl, sym, ap, _∙_}
 use mathlib.Core.List.{[], _∷_}
 use native.Mathlib.Omega.{arith}
 use lib.ListN.{length, getD}
-use Rattle.text.specs.Writing.{sheet, puts, writes, writesBelow, number}
-use Rattle.text.proofs.Writing.{below-none, below-more}
+use Rattle.text_output.specs.Writing.{sheet, puts, writes, writesBelow, number}
+use Rattle.text_output.proofs.Writing.{below-none, below-more}
 use Rattle.script.proofs.answers.put_ids.Statement.{statement}
 use Rattle.script.proofs.answers.put_ids.Tie as tie
 

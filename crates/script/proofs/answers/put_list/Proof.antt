@@ -1,6 +1,6 @@
 -- `script::answers::put_list` meets its contract. Assumes nothing.
 use mathlib.Core.Path.{ap, _∙_}
-use Rattle.text.specs.Writing.{writesBelow}
+use Rattle.text_output.specs.Writing.{writesBelow}
 use borrow.Author.Needs.{needs}
 use Rattle.script.proofs.answers.put_list.Statement.{statement}
 use Rattle.script.proofs.answers.put_list.Tie as tie

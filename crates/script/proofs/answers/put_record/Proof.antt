@@ -1,5 +1,5 @@
 -- `script::answers::put_record` meets its contract. Assumes nothing.
-use Rattle.text.specs.Writing.{writes}
+use Rattle.text_output.specs.Writing.{writes}
 use borrow.Author.Needs.{needs}
 use Rattle.script.proofs.answers.put_record.Statement.{statement}
 use Rattle.script.proofs.answers.put_record.Tie as tie

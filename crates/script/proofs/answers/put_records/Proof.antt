@@ -3,9 +3,9 @@ use Prim.Native.Nat.{ℕ, _-_, _≤_}
 use mathlib.Core.Path.{_≡_, refl, sym, ap, _∙_}
 use native.Mathlib.Omega.{arith}
 use lib.ListN.{length, getD}
-use Rattle.text.specs.Writing.{sheet, writes, writesBelow}
+use Rattle.text_output.specs.Writing.{sheet, writes, writesBelow}
 use Rattle.script.specs.Answers.{recordLine}
-use Rattle.text.proofs.Writing.{below-none, below-more}
+use Rattle.text_output.proofs.Writing.{below-none, below-more}
 use Rattle.script.proofs.answers.put_records.Statement.{statement}
 use Rattle.script.proofs.answers.put_records.Tie as tie
 

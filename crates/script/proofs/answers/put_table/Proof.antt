@@ -2,7 +2,7 @@
 use mathlib.Core.Path.{_∙_}
 use lib.ListN.{getD}
 use Rattle.scenes.specs.Table.{tableOf}
-use Rattle.text.specs.Writing.{writesBelow}
+use Rattle.text_output.specs.Writing.{writesBelow}
 use Rattle.script.specs.Answers.{recordLine, entryLine, tableLines}
 use borrow.Author.Needs.{needs}
 use Rattle.script.proofs.answers.put_table.Statement.{statement}

@@ -2,7 +2,7 @@
 use Prim.Native.Nat.{ℕ}
 use mathlib.Core.Path.{ap, _∙_}
 use mathlib.Core.List.{List}
-use Rattle.text.specs.Writing.{sheet, writes}
+use Rattle.text_output.specs.Writing.{sheet, writes}
 use Rattle.script.specs.Answers.{sceneTexts}
 use borrow.Author.Needs.{needs}
 use Rattle.script.proofs.answers.put_tail.Statement.{statement}

@@ -6,8 +6,8 @@ use native.Mathlib.Omega.{arith}
 use lib.ListN.{take, drop}
 use lib.Seq.{drop-drop}
 use borrow.Rule.Slice.PartMut.{same-len-mid}
-use Rattle.text.specs.Reading.{Turned}
-use Rattle.text.proofs.Reading.{word-start, word-end}
+use Rattle.text_input.specs.Reading.{Turned}
+use Rattle.text_input.proofs.Reading.{word-start, word-end}
 use Rattle.script.specs.Lines.{readAs, wordSays}
 use Rattle.script.proofs.LineLaws.{word-is}
 use borrow.Author.Needs.{needs}

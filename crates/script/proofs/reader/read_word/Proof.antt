@@ -2,7 +2,7 @@
 use Prim.Native.Nat.{ℕ}
 use mathlib.Core.Path.{ap, _∙_}
 use borrow.Author.Tests.{eq-eqb, ne-eqb}
-use Rattle.text.specs.Reading.{numberOf, orDash, digitBytes, hexPairs}
+use Rattle.text_input.specs.Reading.{numberOf, orDash, digitBytes, hexPairs}
 use Rattle.script.proofs.LineLaws.{number-read, spelling-read}
 use borrow.Author.Needs.{needs}
 use Rattle.script.proofs.reader.read_word.Statement.{statement}

@@ -2,7 +2,7 @@
 use Prim.Native.Nat.{ℕ}
 use mathlib.Core.Path.{_≡_, sym, ap, _∙_}
 use mathlib.Core.List.{List}
-use Rattle.text.specs.Writing.{sheet}
+use Rattle.text_output.specs.Writing.{sheet}
 use Rattle.script.specs.declared.runner.Machine.{Machine}
 use Rattle.script.specs.declared.reader.Line.{Line}
 use Rattle.script.specs.declared.reader.Verdict.{Verdict}

@@ -1,5 +1,5 @@
 -- `script::runner::Machine::called` meets its contract. Assumes nothing.
-use Rattle.text.specs.Writing.{sheet}
+use Rattle.text_output.specs.Writing.{sheet}
 use Rattle.script.specs.Running.{Session, session}
 use Rattle.script.proofs.RunLaws.{called-ends}
 use borrow.Author.Needs.{needs}

@@ -1,0 +1,47 @@
+-- The answer to the line that the buffer holds stands whole, run or too long. Assumes nothing.
+use Prim.Native.Nat.{ℕ, _+_, _<_, _≤_}
+use mathlib.Core.Path.{_≡_, ap, _∙_}
+use mathlib.Core.Bool.{Bool, cond}
+use mathlib.Core.List.{List}
+use native.Mathlib.Omega.{arith}
+use lib.ListN.{length, take}
+use borrow.Author.Tests.{lt-ltb, le-ltb}
+use Rattle.words.specs.Constants.{maxScenes}
+use Rattle.text_output.specs.declared.reason.Reason.the-variants.{TooLong}
+use Rattle.text_output.specs.Writing.{Sheet, sheet, writes}
+use Rattle.text_output.specs.Errors.{errorLine}
+use Rattle.text_output.proofs.Whole.{puts-whole}
+use Rattle.script.specs.declared.runner.Machine.{Machine}
+use Rattle.script.specs.Running.{counted, Session, session, runLine}
+use Rattle.script.proofs.Lengths.{error-puts, line-puts}
+use Rattle.console.specs.Whole.{longest, heldAnswer, Whole}
+
+module _ (m : Machine) (keys times fields records ids line : List ℕ) (held : ℕ) (out : List ℕ) (at : ℕ) (after : List ℕ) (next : ℕ) where
+  abbrev run-on : Sheet → Session
+  run-on s = runLine (session (counted m) keys times fields records ids (take held line) s)
+
+  abbrev too-long-on : Sheet → Sheet
+  too-long-on s = writes (errorLine (counted m .lines) TooLong) s
+
+  pub ran-whole : held < length line → length keys ≤ maxScenes → length records ≤ maxScenes
+      → length (run-on (sheet out at) .ids) ≤ maxScenes → at + longest ≤ length out → sheet after next ≡ run-on (sheet out at) .output
+      → Whole (heldAnswer m keys times fields records ids line held) out at after next
+  ran-whole l k r i o e =
+      let p = line-puts (counted m) keys times fields records ids (take held line) maxScenes (sheet out at) i in
+      record {
+        text = p .text;
+        short = omega (arith, p .short, k, r);
+        says = λ s. ap (λ (b : Bool). cond b (run-on s .output) (too-long-on s)) (lt-ltb held (length line) l) ∙ p .put s;
+        stands = e ∙ p .put (sheet out at) ∙ puts-whole (p .text) out at (omega (arith, p .short, k, r, o));
+      }
+
+  pub too-long-whole : length line ≤ held → at + longest ≤ length out → sheet after next ≡ too-long-on (sheet out at)
+      → Whole (heldAnswer m keys times fields records ids line held) out at after next
+  too-long-whole l o e =
+      let p = error-puts (counted m .lines) TooLong in
+      record {
+        text = p .text;
+        short = omega (arith, p .short);
+        says = λ s. ap (λ (b : Bool). cond b (run-on s .output) (too-long-on s)) (le-ltb held (length line) l) ∙ p .put s;
+        stands = e ∙ p .put (sheet out at) ∙ puts-whole (p .text) out at (omega (arith, p .short, o));
+      }
