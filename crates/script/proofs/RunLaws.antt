@@ -7,32 +7,60 @@ use lib.Dec.{eqb}
 use lib.ListN.{getD, take, drop}
 use borrow.Author.Tests.{eqb-true, eq-eqb, ne-eqb}
 use Rattle.words.specs.Below.{positions}
-use Rattle.scenes.specs.Table.{tableOf}
-use Rattle.script.specs.declared.calls.Answer.{Answer}
+use Rattle.state.specs.Table.{Table, tableOf}
+use Rattle.script_answers.specs.declared.Answer.{Answer}
 use Rattle.script.specs.declared.runner.Machine.{Machine}
 use Rattle.script.specs.declared.runner.Ran.{Ran}
 use Rattle.text_output.specs.declared.reason.Reason.the-variants.{NoTable}
 use Rattle.text_output.specs.Writing.{Sheet, sheet, writes}
-use Rattle.script.specs.Answers.{answerLine, sizeLine, tableLines}
-use Rattle.script.specs.Calls.{doneOf, Called, calledOf, valueAt, call, command, query, hostWrite, event, add, store, view, remove, removeAll, copy, recall, listIn, list, info, setVersion, pushEntry, pushRecord}
-use Rattle.script.specs.Lines.{oneOf, kindsOf, Meaning, wordRead}
+use Rattle.script_answers.specs.Answers.{answerLine, sizeLine, fits}
+use Rattle.script_answers.specs.Dump.{tableLines}
+use Rattle.script_answers.specs.Done.{doneOf, Called, calledOf}
+use Rattle.script_lines.specs.Values.{valueAt}
+use Rattle.script.specs.Calls.{call}
+use Rattle.script_commands.specs.Commands.{command, add, store, remove, removeAll, copy}
+use Rattle.script_reads.specs.Reads.{query, view, recall, listIn, list, info}
+use Rattle.script_events.specs.Writes.{hostWrite, setVersion, pushEntry, pushRecord}
+use Rattle.script_events.specs.Events.{event}
+use Rattle.script_lines.specs.Lines.{oneOf, kindsOf, Meaning, wordRead}
 use Rattle.script.specs.Running.{sized, withState, Ended, Session, session, tableIn, answered, wrong, answeredCall, called, obeyed, numbers, texts}
+use Rattle.script_answers.proofs.DoneLaws.{fit-called}
+use Rattle.script_commands.proofs.Fits.{command-fits}
+use Rattle.script_reads.proofs.Fits.{query-fits}
+use Rattle.script_events.proofs.Fits.{event-fits, write-fits}
 
 -- a line that leaves the lent memory, the list buffer and the line as they were
-pub ended : (n m : Machine) (k t f w ids line : List ℕ) (written : Sheet → Sheet) (out after : List ℕ) (at : ℕ) (r : Ran) → Ended m written out at after r
+pub ended : (n m : Machine) (k t f w ids line : List ℕ) (written : Sheet → Sheet) (out after : List ℕ) (at : ℕ) (r : Ran)
+    → Ended m written out at after r
     → session (r .machine) k t f w ids line (sheet after (r .at)) ≡ answered m written (session n k t f w ids line (sheet out at))
 ended n m k t f w ids line written out after at r e = λ i. session (e .machine i) k t f w ids line (e .output i)
 
 -- a call of the table
 pub called-ends : (s : Session) (letter : ℕ) (a : Answer) (k t f w ids : List ℕ) (o : Sheet) (c : Called)
-    → o ≡ answerLine (s .machine .trace) letter a ids (tableOf (a .state) k t f w) (s .output)
+    → o ≡ answerLine (s .machine .trace) letter a ids f (s .output)
     → calledOf (doneOf a (tableOf (a .state) k t f w)) ids ≡ c
     → session (withState (a .state) (s .machine)) k t f w ids (s .line) o ≡ answeredCall letter c s
-called-ends s letter a k t f w ids o c p q = ap (session (withState (a .state) (s .machine)) k t f w ids (s .line)) p ∙ ap (λ (x : Called). answeredCall letter x s) q
+called-ends s letter a k t f w ids o c p q =
+    ap (session (withState (a .state) (s .machine)) k t f w ids (s .line)) p ∙ ap (λ (x : Called). answeredCall letter x s) q
 
--- what an understood line asks for
+-- ---- a call's tail fits
+
+pub call-fits : (letter : ℕ) (values : List ℕ) (bytes : ℕ → List ℕ) (ids : List ℕ) (t : Table) → fits (call letter values bytes ids t .done .tail)
+unfolding call
+call-fits letter values bytes ids t =
+    fit-called (oneOf letter (65 ∷ 83 ∷ 82 ∷ 88 ∷ 67 ∷ [])) _ _ (command-fits letter values bytes t)
+    (fit-called (oneOf letter (86 ∷ 76 ∷ 77 ∷ 73 ∷ [])) _ _ (query-fits letter values ids t)
+    (fit-called (oneOf letter (75 ∷ 101 ∷ 114 ∷ [])) _ _ (write-fits letter values bytes t) (event-fits letter values t)))
+
+pub answer-fits : (a : Answer) (after : Table) (later : List ℕ) (letter : ℕ) (values : List ℕ) (bytes : ℕ → List ℕ) (ids : List ℕ) (t : Table)
+    → calledOf (doneOf a after) later ≡ call letter values bytes ids t → fits (a .tail)
+answer-fits a after later letter values bytes ids t e = subst (λ (c : Called). fits (c .done .tail)) (sym e) (call-fits letter values bytes ids t)
+
+-- ---- what an understood line asks for
+
 module _ (letter : ℕ) (values : List ℕ) (bytes : ℕ → List ℕ) (s : Session) where
-  pub obeys-size : letter ≡ 78 → answered (sized (valueAt values 0) (s .machine)) (writes (sizeLine (s .machine .trace) (valueAt values 0))) s ≡ obeyed letter values bytes s
+  pub obeys-size : letter ≡ 78
+      → answered (sized (valueAt values 0) (s .machine)) (writes (sizeLine (s .machine .trace) (valueAt values 0))) s ≡ obeyed letter values bytes s
   unfolding obeyed
   obeys-size e = rw (eq-eqb letter 78 e)
 
@@ -76,11 +104,28 @@ abbrev worded : List ℕ
 worded = 78 ∷ 65 ∷ 83 ∷ 86 ∷ 82 ∷ 88 ∷ 67 ∷ 76 ∷ 77 ∷ 73 ∷ 84 ∷ 70 ∷ 75 ∷ 101 ∷ 114 ∷ []
 
 -- any other letter asks for the same whatever is read behind it
-wordless : (letter : ℕ) → oneOf letter worded ≡ false → (values : List ℕ) (bytes : ℕ → List ℕ) (s : Session) → obeyed letter values bytes s ≡ obeyed letter [] (λ i. []) s
+wordless : (letter : ℕ) → oneOf letter worded ≡ false → (values : List ℕ) (bytes : ℕ → List ℕ) (s : Session)
+    → obeyed letter values bytes s ≡ obeyed letter [] (λ i. []) s
 unfolding obeyed call oneOf command query hostWrite event
 wordless letter n values bytes s =
     let no : (l : ℕ) → oneOf l worded ≡ true → eqb letter l ≡ false = none-of letter worded n in
-    simp (no 78 refl, no 65 refl, no 83 refl, no 86 refl, no 82 refl, no 88 refl, no 67 refl, no 76 refl, no 77 refl, no 73 refl, no 84 refl, no 70 refl, no 75 refl, no 101 refl, no 114 refl)
+    simp (
+      no 78 refl,
+      no 65 refl,
+      no 83 refl,
+      no 86 refl,
+      no 82 refl,
+      no 88 refl,
+      no 67 refl,
+      no 76 refl,
+      no 77 refl,
+      no 73 refl,
+      no 84 refl,
+      no 70 refl,
+      no 75 refl,
+      no 101 refl,
+      no 114 refl,
+    )
 
 module _ (values starts line : List ℕ) (s : Session) where
   abbrev words : ℕ → List Meaning
@@ -88,7 +133,9 @@ module _ (values starts line : List ℕ) (s : Session) where
 
   -- what was read, and what the words say
   abbrev Same : ℕ → Type 0
-  Same letter = obeyed letter values (λ i. take (getD values i 0) (drop (getD starts i 0) line)) s ≡ obeyed letter (numbers (words letter)) (texts (words letter)) s
+  Same letter =
+      obeyed letter values (λ i. take (getD values i 0) (drop (getD starts i 0) line)) s ≡ obeyed letter (numbers (words letter))
+      (texts (words letter)) s
 
   same-each : At Same worded
   unfolding obeyed call oneOf command query hostWrite event add store view remove removeAll copy recall listIn list info setVersion pushEntry pushRecord kindsOf positions

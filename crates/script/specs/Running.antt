@@ -6,17 +6,20 @@ use mathlib.Core.List.{List, [], map}
 use lib.Dec.{eqb}
 use lib.ListN.{getD}
 use Rattle.slots.specs.Slots.{Slots, slotsOf}
-use Rattle.scenes.specs.declared.ScenesState.{ScenesState}
-use Rattle.scenes.specs.Table.{Table, newState}
+use Rattle.state.specs.declared.ScenesState.{ScenesState}
+use Rattle.state.specs.Table.{Table, newState}
 use Rattle.script.specs.declared.runner.Machine.{Machine}
 use Rattle.script.specs.declared.runner.Ran.{Ran}
 use Rattle.text_output.specs.declared.reason.Reason.{Reason}
 use Rattle.text_output.specs.declared.reason.Reason.the-variants.{NoTable}
 use Rattle.text_output.specs.Writing.{Sheet, sheet, writes}
 use Rattle.text_output.specs.Errors.{errorLine}
-use Rattle.script.specs.Answers.{sizeLine, answerLine, tableLines}
-use Rattle.script.specs.Lines.{Meaning, Number, Text, Unclear, Said, Nothing, Wrong, Call, lineSays, lineLeft}
-use Rattle.script.specs.Calls.{Called, answerOf, valueAt, call}
+use Rattle.script_answers.specs.Answers.{sizeLine, answerLine}
+use Rattle.script_answers.specs.Dump.{tableLines}
+use Rattle.script_lines.specs.Lines.{Meaning, Number, Text, Unclear, Said, Nothing, Wrong, Call, lineSays, lineLeft}
+use Rattle.script_answers.specs.Done.{Called, answerOf}
+use Rattle.script_lines.specs.Values.{valueAt}
+use Rattle.script.specs.Calls.{call}
 
 -- ---- the machine
 
@@ -73,7 +76,7 @@ answeredCall letter c s = record {
   records = c .done .table .records;
   ids = c .ids;
   line = s .line;
-  output = answerLine (s .machine .trace) letter (answerOf (c .done)) (c .ids) (c .done .table) (s .output);
+  output = answerLine (s .machine .trace) letter (answerOf (c .done)) (c .ids) (c .done .table .slots .fields) (s .output);
 }
 
 -- ---- a line, by its letter, the numbers of its words and the bytes that they spell

@@ -1,7 +1,5 @@
 // Scripts for a scene table: a line is read, run on a table and answered in lines of text. Nothing here reads or writes a file.
-mod answers;
 mod calls;
-mod reader;
 mod runner;
 
 pub use runner::Machine;

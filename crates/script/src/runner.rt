@@ -1,20 +1,21 @@
 // A line is read, run on the table and answered.
-use crate::answers::put_answer;
-use crate::answers::put_size;
-use crate::answers::put_table;
 use crate::calls::call;
-use crate::reader::Line;
-use crate::reader::Verdict;
-use crate::reader::read_line;
-use scenes::ScenesState;
+use script_answers::put_answer;
+use script_answers::put_size;
+use script_answers::put_table;
+use script_lines::Line;
+use script_lines::Verdict;
+use script_lines::read_line;
+use state::ScenesState;
 use text_output::Reason;
 use text_output::put_error;
 ghost use mathlib.Core.Path.{_≡_};
-ghost use Rattle.scenes.specs.Table.{tableOf};
+ghost use Rattle.state.specs.Table.{tableOf};
 ghost use Rattle.text_output.specs.Writing.{sheet, writes};
 ghost use Rattle.text_output.specs.Errors.{errorLine};
-ghost use Rattle.script.specs.Answers.{sizeLine, tableLines};
-ghost use Rattle.script.specs.Calls.{bytesAt};
+ghost use Rattle.script_answers.specs.Answers.{sizeLine};
+ghost use Rattle.script_answers.specs.Dump.{tableLines};
+ghost use Rattle.script_lines.specs.Values.{bytesAt};
 ghost use Rattle.script.specs.Running.{newMachine, counted, sized, Ended, session, called, obeyed, runLine};
 
 // What a run keeps from line to line: the head of the table, whether there is one, whether every call may be made or only those of
@@ -122,18 +123,7 @@ impl Machine {
         self.state = after;
         Ran {
             machine: self,
-            at: put_answer(
-                out,
-                at,
-                self.trace,
-                read.letter,
-                answer,
-                keys,
-                times,
-                fields,
-                records,
-                ids,
-            ),
+            at: put_answer(out, at, self.trace, read.letter, answer, fields, ids),
         }
     }
 

@@ -1,9 +1,27 @@
 -- `script::calls::call` meets its contract. Assumes nothing.
-use mathlib.Core.Path.{sym, ap, _∙_}
-use Rattle.script.specs.Calls.{Done, calledOf, call}
+use mathlib.Core.Path.{_≡_, sym, ap, _∙_}
+use mathlib.Core.Bool.{false}
+use mathlib.Core.List.{[], _∷_}
+use Rattle.script_lines.specs.Lines.{oneOf}
+use Rattle.script_answers.specs.Done.{Done, Called, calledOf}
+use Rattle.script.specs.Calls.{call}
 use borrow.Author.Needs.{needs}
 use Rattle.script.proofs.calls.call.Statement.{statement}
 use Rattle.script.proofs.calls.call.Tie as tie
+
+-- the entry of the call, and an answer with the list buffer as it came in
+abbrev start : tie.After-one-of → tie.Start
+start c = c .before .before .before .before .before .before .before .before
+
+abbrev kept : tie.After-one-of → Done → Called
+kept c d = calledOf d (start c .args .ids .now)
+
+-- the letter is no command, and no read
+no-command : (c : tie.Else1) → oneOf (start (c .before) .args .read .letter) (65 ∷ 83 ∷ 82 ∷ 88 ∷ 67 ∷ []) ≡ false
+no-command c = sym (c .before .one-of .ensures) ∙ c .if1 .left
+
+no-read : (c : tie.Else2) → oneOf (start (c .before .before .before .before) .args .read .letter) (86 ∷ 76 ∷ 77 ∷ 73 ∷ []) ≡ false
+no-read c = sym (c .before .one-of2 .ensures) ∙ c .if2 .left
 
 slice-aggregate-one-of : tie.Need-slice-aggregate-one-of
 slice-aggregate-one-of c = search needs
@@ -28,7 +46,10 @@ same-length-4 c = search needs
 
 returns : tie.Need-returns
 unfolding call
-returns c = rw (sym (c .before .before .before .before .before .before .before .before .before .before .before .before .before .before .one-of .ensures) ∙ c .before .before .before .before .before .before .before .before .before .before .before .before .before .if1 .taken) (ap (λ (d : Done). calledOf d (c .before .before .before .before .before .before .before .before .before .before .before .before .before .before .before .before .before .before .before .before .before .before .args .ids .now)) (c .before .before .before .before .before .before .before .before .command .ensures))
+returns c =
+    let at-call = c .before .before .before .before .before .before .before .before in
+    let is = at-call .before .before .before .before .before in
+    rw (sym (is .before .one-of .ensures) ∙ is .if1 .taken) (ap (kept (is .before)) (at-call .command .ensures))
 
 slice-aggregate-one-of-2 : tie.Need-slice-aggregate-one-of-2
 slice-aggregate-one-of-2 c = search needs
@@ -56,7 +77,10 @@ same-length-9 c = search needs
 
 returns-2 : tie.Need-returns-2
 unfolding call
-returns-2 c = rw (sym (c .before .before .before .before .before .before .before .before .before .before .before .before .before .before .one-of .ensures) ∙ c .before .before .before .before .before .before .before .before .before .before .before .before .before .if1 .left, sym (c .before .before .before .before .before .before .before .before .before .before .before .one-of2 .ensures) ∙ c .before .before .before .before .before .before .before .before .before .before .if2 .taken) (c .before .before .before .before .query .ensures)
+returns-2 c =
+    let at-call = c .before .before .before .before in
+    let is = at-call .before .before .before .before .before .before in
+    rw (no-command (is .before .before .before), sym (is .before .one-of2 .ensures) ∙ is .if2 .taken) (at-call .query .ensures)
 
 slice-aggregate-one-of-3 : tie.Need-slice-aggregate-one-of-3
 slice-aggregate-one-of-3 c = search needs
@@ -81,7 +105,12 @@ same-length-13 c = search needs
 
 returns-3 : tie.Need-returns-3
 unfolding call
-returns-3 c = rw (sym (c .before .before .before .before .before .before .before .before .before .before .before .before .before .before .before .before .before .before .before .before .one-of .ensures) ∙ c .before .before .before .before .before .before .before .before .before .before .before .before .before .before .before .before .before .before .before .if1 .left, sym (c .before .before .before .before .before .before .before .before .before .before .before .before .before .before .before .before .before .one-of2 .ensures) ∙ c .before .before .before .before .before .before .before .before .before .before .before .before .before .before .before .before .if2 .left, sym (c .before .before .before .before .before .before .before .before .before .before .before .before .before .before .one-of3 .ensures) ∙ c .before .before .before .before .before .before .before .before .before .before .before .before .before .if3 .taken) (ap (λ (d : Done). calledOf d (c .before .before .before .before .before .before .before .before .before .before .before .before .before .before .before .before .before .before .before .before .before .before .before .before .before .before .before .before .args .ids .now)) (c .before .before .before .before .before .before .before .before .host-write .ensures))
+returns-3 c =
+    let at-call = c .before .before .before .before .before .before .before .before in
+    let is = at-call .before .before .before .before .before in
+    let no = is .before .before .before in
+    rw (no-command (no .before .before .before), no-read no, sym (is .before .one-of3 .ensures) ∙ is .if3 .taken)
+    (ap (kept (no .before .before .before .before)) (at-call .host-write .ensures))
 
 event-requires : tie.Need-event-requires
 event-requires c κs = search needs
@@ -100,7 +129,12 @@ same-length-17 c = search needs
 
 returns-4 : tie.Need-returns-4
 unfolding call
-returns-4 c = rw (sym (c .before .before .before .before .before .before .before .before .before .before .before .before .before .before .before .before .before .before .before .before .one-of .ensures) ∙ c .before .before .before .before .before .before .before .before .before .before .before .before .before .before .before .before .before .before .before .if1 .left, sym (c .before .before .before .before .before .before .before .before .before .before .before .before .before .before .before .before .before .one-of2 .ensures) ∙ c .before .before .before .before .before .before .before .before .before .before .before .before .before .before .before .before .if2 .left, sym (c .before .before .before .before .before .before .before .before .before .before .before .before .before .before .one-of3 .ensures) ∙ c .before .before .before .before .before .before .before .before .before .before .before .before .before .if3 .left) (ap (λ (d : Done). calledOf d (c .before .before .before .before .before .before .before .before .before .before .before .before .before .before .before .before .before .before .before .before .before .before .before .before .before .before .before .before .args .ids .now)) (c .before .before .before .before .before .before .before .before .event .ensures))
+returns-4 c =
+    let at-call = c .before .before .before .before .before .before .before .before in
+    let is = at-call .before .before .before .before .before in
+    let no = is .before .before .before in
+    rw (no-command (no .before .before .before), no-read no, sym (is .before .one-of3 .ensures) ∙ is .if3 .left)
+    (ap (kept (no .before .before .before .before)) (at-call .event .ensures))
 
 pub call-spec : {M : Type 1} → statement M
 call-spec =

@@ -1,7 +1,7 @@
 -- `script::runner::Machine::new` meets its contract. Assumes nothing.
 use mathlib.Core.Path.{ap}
 use mathlib.Core.Bool.{Bool, false}
-use Rattle.scenes.specs.declared.ScenesState.{ScenesState}
+use Rattle.state.specs.declared.ScenesState.{ScenesState}
 use Rattle.script.specs.declared.runner.Machine.{Machine}
 use borrow.Author.Needs.{needs}
 use Rattle.script.proofs.runner.Machine.new.Statement.{statement}

@@ -1,0 +1,179 @@
+-- How long the lines of answers are at most: a number has 20 digits, a scene 128 field bytes. Assumes nothing.
+use Prim.Native.Nat.{ℕ, _+_, _*_, _≤_, _<_, min}
+use mathlib.Core.Path.{_≡_, refl, ap}
+use mathlib.Core.Bool.{Bool, true, false, cond, _&&_}
+use mathlib.Core.List.{List, [], _∷_}
+use native.Mathlib.Omega.{arith}
+use lib.Dec.{ltb}
+use lib.ListN.{length, getD, drop, length-take}
+use borrow.Author.Tests.{ltb-true}
+use Rattle.words.specs.Constants.{maxFields, stride}
+use Rattle.words.specs.Words.{fabricOf, endpointOf, groupOf, sceneOf, keyOfRecord, isValid}
+use Rattle.words.proofs.Tests.{and-left, and-right}
+use Rattle.slots.specs.Slots.{lengthAt, fieldsAt}
+use Rattle.state.specs.declared.ScenesState.{ScenesState}
+use Rattle.state.specs.Table.{Table}
+use Rattle.state.specs.Sound.{sound}
+use Rattle.reads.specs.Reads.{fieldBytes}
+use Rattle.state.proofs.Laws.{sound-length}
+use Rattle.text_output.specs.Writing.{puts, writes, writesBelow, Puts, digitsIn, decimal, number, newline, flagText, hexByte, hexText, bytesText, isFault, statusText}
+use Rattle.text_output.proofs.Writing.{decimal-one}
+use Rattle.text_output.proofs.Whole.{total, puts-text, puts-nothing, puts-then, puts-most, puts-all, puts-below, number-length}
+use Rattle.script_answers.specs.declared.Row.{Row}
+use Rattle.script_answers.specs.declared.Answer.{Answer}
+use Rattle.script_answers.specs.declared.Tail.{Tail}
+use Rattle.script_answers.specs.declared.Tail.the-variants.{Nothing, Scene, Ids, NoRow, Info}
+use Rattle.script_answers.specs.Answers.{sizeLine, headTexts, rowTexts, sceneBytes, sceneTexts, listTexts, fits, tailOf, answerLine}
+use Rattle.script_answers.specs.Dump.{entryTexts, entryLine, recordLine, countsLine, tableLines}
+
+-- texts of at most so many bytes
+pub all-puts : (ts : List (List ℕ)) (most : ℕ) → total ts ≤ most → Puts most (writes ts)
+all-puts ts most h = puts-most (total ts) most (writes ts) h (puts-all ts)
+
+-- ---- pieces
+
+flag-length : (b : Bool) → length (flagText b) ≤ 1
+unfolding digitsIn
+flag-length true = omega arith
+flag-length false = omega arith
+
+status-length : (s : ℕ) → length (statusText s) ≤ 2
+unfolding statusText isFault
+status-length s =
+    (elim (isFault s) as (λ b. isFault s ≡ b → length (cond b (70 ∷ decimal s) (hexByte s)) ≤ 2) [
+      | true ↦ λ e. let l : s < 10 = ltb-true s 10 (and-left (ltb s 10) (ltb 0 s) e) in let d = ap length (decimal-one s l) in omega arith
+      | false ↦ λ e. omega arith
+    ]) refl
+
+hex-length : (bs : List ℕ) → length (hexText bs) ≡ 2 * length bs
+unfolding hexText
+hex-length [] = refl
+hex-length (b ∷ bs) = let l = hex-length bs in omega arith
+
+bytes-length : (bs : List ℕ) → length (bytesText bs) ≤ 1 + 2 * length bs
+unfolding bytesText
+bytes-length [] = omega arith
+bytes-length (b ∷ bs) = let l = hex-length (b ∷ bs) in omega arith
+
+-- a scene has at most 128 field bytes
+fields-length : (at : ℕ) (t : Table) → length (fieldBytes at t) ≤ maxFields
+unfolding fieldBytes
+fields-length at t =
+    (elim (sound t && ltb at (t .state .entries)) as
+    (λ b. (sound t && ltb at (t .state .entries)) ≡ b → length (cond b (fieldsAt (t .slots .fields) at) []) ≤ maxFields) [
+      | true ↦ λ e.
+          let m = sound-length t at (and-left (sound t) _ e) (ltb-true at (t .state .entries) (and-right (sound t) _ e)) in
+          let l = length-take (lengthAt (t .slots .fields) at) (drop (at * stride + 1) (t .slots .fields)) in
+          omega arith
+      | false ↦ λ e. omega arith
+    ]) refl
+
+-- ---- lines
+
+pub size-puts : (trace : Bool) (n : ℕ) → Puts 28 (writes (sizeLine trace n))
+unfolding total
+size-puts true n = all-puts (sizeLine true n) 28 (let l = number-length n in omega arith)
+size-puts false n = all-puts (sizeLine false n) 28 (let l = number-length n in omega arith)
+
+head-puts : (trace : Bool) (letter : ℕ) (a : Answer) → Puts 69 (writes (headTexts trace letter a))
+unfolding total
+head-puts trace letter a =
+    let s = status-length (a .status) in
+    let f = flag-length (a .save) in
+    let l = number-length (a .state .entries) in
+    let m = number-length (a .state .recorded) in
+    let n = number-length (a .state .dataver) in
+    all-puts (headTexts trace letter a) 69
+    (elim trace as (λ b. total (headTexts b letter a) ≤ 69) [
+      | true ↦ omega arith
+      | false ↦ omega arith
+    ])
+
+counts-puts : (state : ScenesState) → Puts 65 (writes (countsLine state))
+unfolding total
+counts-puts state =
+    let l = number-length (state .entries) in
+    let m = number-length (state .recorded) in
+    let n = number-length (state .dataver) in
+    all-puts (countsLine state) 65 (omega arith)
+
+-- an entry and a record
+entry-total : (word time : ℕ) (fields : List ℕ) → length fields ≤ maxFields → total (entryTexts word time fields) ≤ 366
+unfolding total
+entry-total word time fields f =
+    let a = number-length (fabricOf word) in
+    let b = number-length (endpointOf word) in
+    let c = number-length (groupOf word) in
+    let d = number-length (sceneOf word) in
+    let e = number-length time in
+    let g = bytes-length fields in
+    omega arith
+
+record-total : (word : ℕ) → total (recordLine word) ≤ 90
+unfolding total
+record-total word =
+    let a = number-length (fabricOf (keyOfRecord word)) in
+    let b = number-length (endpointOf (keyOfRecord word)) in
+    let c = number-length (groupOf (keyOfRecord word)) in
+    let d = number-length (sceneOf (keyOfRecord word)) in
+    let e = flag-length (isValid word) in
+    omega arith
+
+row-puts : (r : Row) → Puts 107 (writes (rowTexts r))
+unfolding total
+row-puts r =
+    let f = number-length (r .count) in
+    let g = number-length (r .group) in
+    let h = number-length (r .scene) in
+    let i = flag-length (r .valid) in
+    let j = number-length (r .remaining) in
+    let k = number-length (r .fabric) in
+    all-puts (rowTexts r) 107 (omega arith)
+
+scene-puts : (time : ℕ) (fields : List ℕ) → length fields ≤ maxFields → Puts 279 (writes (sceneTexts time fields))
+unfolding total
+scene-puts time fields f = let a = number-length time in let b = bytes-length fields in all-puts (sceneTexts time fields) 279 (omega arith)
+
+list-puts : (remaining : ℕ) (ids : List ℕ) (len : ℕ) → Puts (21 + min len (length ids) * 21) (listTexts remaining ids len)
+unfolding total
+list-puts remaining ids len =
+    puts-then 21 (min len (length ids) * 21) (puts (number remaining)) (writesBelow (λ i. number (getD ids i 0) ∷ []) (min len (length ids)))
+    (puts-text 21 (number remaining) (number-length remaining))
+    (puts-below (λ i. number (getD ids i 0) ∷ []) 21 (min len (length ids)) (λ i l. let n = number-length (getD ids i 0) in omega arith))
+
+-- a table, by what the lent slices have
+pub table-puts : (t : Table) → Puts (65 + length (t .slots .keys) * 366 + length (t .records) * 90) (tableLines t)
+unfolding tableLines
+table-puts t =
+    let n : ℕ = min (t .state .entries) (length (t .slots .keys)) in
+    let m : ℕ = min (t .state .recorded) (length (t .records)) in
+    puts-most (65 + n * 366 + m * 90) _ (tableLines t) (omega arith)
+    (puts-then (65 + n * 366) (m * 90)
+    (λ s. writesBelow (entryLine t) n (writes (countsLine (t .state)) s))
+    (writesBelow (λ i. recordLine (getD (t .records) i 0)) m)
+    (puts-then 65 (n * 366) (writes (countsLine (t .state))) (writesBelow (entryLine t) n)
+    (counts-puts (t .state))
+    (puts-below (entryLine t) 366 n (λ i l. entry-total (getD (t .slots .keys) i 0) (getD (t .slots .times) i 0) (fieldBytes i t)
+    (fields-length i t))))
+    (puts-below (λ i. recordLine (getD (t .records) i 0)) 90 m (λ i l. record-total (getD (t .records) i 0))))
+
+-- what an answer has beyond its status
+tail-puts : (tail : Tail) (ids fields : List ℕ) → fits tail → Puts (279 + length ids * 21) (tailOf tail ids fields)
+tail-puts Nothing ids fields h = puts-most 0 _ (λ s. s) (omega arith) puts-nothing
+tail-puts (Scene time at len) ids fields h =
+    let l = length-take len (drop (at * stride + 1) fields) in
+    puts-most 279 _ (tailOf (Scene time at len) ids fields) (omega arith) (scene-puts time (sceneBytes at len fields) (omega (arith, h .1)))
+tail-puts (Ids remaining len) ids fields h =
+    puts-most (21 + min len (length ids) * 21) _ (tailOf (Ids remaining len) ids fields) (omega arith) (list-puts remaining ids len)
+tail-puts NoRow ids fields h = puts-text _ (32 ∷ 110 ∷ 111 ∷ 110 ∷ 101 ∷ []) (omega arith)
+tail-puts (Info row) ids fields h = puts-most 107 _ (tailOf (Info row) ids fields) (omega arith) (row-puts row)
+
+pub answer-puts : (trace : Bool) (letter : ℕ) (a : Answer) (ids fields : List ℕ) → fits (a .tail)
+    → Puts (349 + length ids * 21) (answerLine trace letter a ids fields)
+unfolding answerLine
+answer-puts trace letter a ids fields h =
+    puts-most (69 + (279 + length ids * 21) + 1) _ (answerLine trace letter a ids fields) (omega arith)
+    (puts-then (69 + (279 + length ids * 21)) 1 (λ s. tailOf (a .tail) ids fields (writes (headTexts trace letter a) s)) (puts newline)
+    (puts-then 69 (279 + length ids * 21) (writes (headTexts trace letter a)) (tailOf (a .tail) ids fields)
+    (head-puts trace letter a) (tail-puts (a .tail) ids fields h))
+    (puts-text 1 newline (omega arith)))

@@ -1,0 +1,51 @@
+-- `script_answers::dump::shown_bytes` meets its contract. Assumes nothing.
+use Prim.Native.Nat.{_+_, _*_}
+use mathlib.Core.Path.{_∙_}
+use lib.ListN.{take, drop}
+use borrow.Author.Tests.{lt-ltb, le-ltb}
+use Rattle.words.specs.Constants.{stride}
+use borrow.Author.Needs.{needs}
+use Rattle.script_answers.proofs.dump.shown_bytes.Statement.{statement}
+use Rattle.script_answers.proofs.dump.shown_bytes.Tie as tie
+
+mul-base : tie.Need-mul-base
+mul-base c = search needs
+
+add-part : tie.Need-add-part
+add-part c = search needs
+
+byte-at-requires : tie.Need-byte-at-requires
+byte-at-requires c κs = search needs
+
+cast-part : tie.Need-cast-part
+cast-part c = search needs
+
+part-requires : tie.Need-part-requires
+part-requires c κs = search needs
+
+returns : tie.Need-returns
+returns c =
+    let at-byte-at = c .before in
+    let at-if1 = at-byte-at .before in
+    let start = at-if1 .before .before in
+    let a = start .args in
+    rw (lt-ltb _ _ (at-if1 .if1 .taken)) (c .part .ensures ∙ (λ i. take (at-byte-at .byte-at .ensures i) (drop (a .i * stride + 1) (a .fields .now))))
+
+slice-aggregate-result : tie.Need-slice-aggregate-result
+slice-aggregate-result c = search needs
+
+returns-2 : tie.Need-returns-2
+returns-2 c = rw (le-ltb _ _ (c .before .if1 .left))
+
+pub shown-bytes-spec : {M : Type 1} → statement M
+shown-bytes-spec =
+    tie.close
+    (tie.spec
+    mul-base
+    add-part
+    byte-at-requires
+    cast-part
+    part-requires
+    returns
+    slice-aggregate-result
+    returns-2)

@@ -1,0 +1,72 @@
+-- The lines of answers: what is put into the buffer, piece by piece. Words are in ASCII codes.
+use Prim.Native.Nat.{ℕ, _+_, _*_, _≤_, min}
+use mathlib.Core.Bool.{Bool, cond}
+use mathlib.Core.List.{List, [], _∷_}
+use lib.ListN.{length, getD, take, drop}
+use Rattle.words.specs.Constants.{maxScenes, maxFields, stride}
+use Rattle.script_answers.specs.declared.Row.{Row}
+use Rattle.script_answers.specs.declared.Tail.{Tail}
+use Rattle.script_answers.specs.declared.Tail.the-variants.{Nothing, Scene, Ids, NoRow, Info}
+use Rattle.script_answers.specs.declared.Answer.{Answer}
+use Rattle.text_output.specs.Writing.{Sheet, puts, writes, writesBelow, newline, number, spaced, flagText, bytesText, statusText}
+
+-- ---- the size of a table
+
+-- `N` in a trace, else `scenes`
+abbrev pub sizeWord : Bool → List ℕ
+sizeWord trace = cond trace (78 ∷ []) (115 ∷ 99 ∷ 101 ∷ 110 ∷ 101 ∷ 115 ∷ [])
+
+abbrev pub sizeLine : Bool → ℕ → List (List ℕ)
+sizeLine trace n = sizeWord trace ∷ number n ∷ newline ∷ []
+
+-- ---- an answer
+
+-- letter, status, save mark, entries, records and version; without the save mark and the records outside a trace
+abbrev pub headTexts : Bool → ℕ → Answer → List (List ℕ)
+headTexts trace letter a =
+    cond trace
+    ((letter ∷ [])
+    ∷ spaced (statusText (a .status))
+    ∷ spaced (flagText (a .save))
+    ∷ number (a .state .entries)
+    ∷ number (a .state .recorded)
+    ∷ number (a .state .dataver)
+    ∷ [])
+    ((letter ∷ []) ∷ spaced (statusText (a .status)) ∷ number (a .state .entries) ∷ number (a .state .dataver) ∷ [])
+
+-- count, group, scene, whether valid, remaining, fabric
+abbrev pub rowTexts : Row → List (List ℕ)
+rowTexts r =
+    number (r .count) ∷ number (r .group) ∷ number (r .scene) ∷ spaced (flagText (r .valid)) ∷ number (r .remaining) ∷ number (r .fabric) ∷ []
+
+-- a scene's time and fields
+abbrev pub sceneTexts : ℕ → List ℕ → List (List ℕ)
+sceneTexts time fields = number time ∷ spaced (bytesText fields) ∷ []
+
+-- the remaining capacity and the first ids of a list
+abbrev pub listTexts : ℕ → List ℕ → ℕ → Sheet → Sheet
+listTexts remaining ids len s = writesBelow (λ i. number (getD ids i 0) ∷ []) (min len (length ids)) (puts (number remaining) s)
+
+-- the field bytes of the scene at a position, of a length
+abbrev pub sceneBytes : ℕ → ℕ → List ℕ → List ℕ
+sceneBytes at len fields = take len (drop (at * stride + 1) fields)
+
+-- what an answer has beyond its status: nothing, a scene, a list, ` none`, or an info row
+abbrev pub tailOf : Tail → List ℕ → List ℕ → Sheet → Sheet
+tailOf Nothing ids fields s = s
+tailOf (Scene time at len) ids fields s = writes (sceneTexts time (sceneBytes at len fields)) s
+tailOf (Ids remaining len) ids fields s = listTexts remaining ids len s
+tailOf NoRow ids fields s = puts (32 ∷ 110 ∷ 111 ∷ 110 ∷ 101 ∷ []) s
+tailOf (Info row) ids fields s = writes (rowTexts row) s
+
+-- a scene's position and length are those that an entry can have
+abbrev pub fits : Tail → Type 0
+fits Nothing = Unit
+fits (Scene time at len) = (at ≤ maxScenes) × (len ≤ maxFields)
+fits (Ids remaining len) = Unit
+fits NoRow = Unit
+fits (Info row) = Unit
+
+-- a line: the head and the tail, with the list buffer and the fields that the call left
+unfoldable pub answerLine : Bool → ℕ → Answer → List ℕ → List ℕ → Sheet → Sheet
+answerLine trace letter a ids fields s = puts newline (tailOf (a .tail) ids fields (writes (headTexts trace letter a) s))

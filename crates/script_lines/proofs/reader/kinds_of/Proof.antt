@@ -1,0 +1,134 @@
+-- `script_lines::reader::kinds_of` meets its contract. Assumes nothing.
+use mathlib.Core.Logic.{⊎-elim, inl, inr}
+use borrow.Author.Tests.{ne-eqb}
+use Rattle.script_lines.specs.Lines.{kindsOf}
+use borrow.Author.Needs.{needs}
+use Rattle.script_lines.proofs.reader.kinds_of.Statement.{statement}
+use Rattle.script_lines.proofs.reader.kinds_of.Tie as tie
+
+scene-and-requires : tie.Need-scene-and-requires
+scene-and-requires c κs = search needs
+
+scene-and-requires-2 : tie.Need-scene-and-requires-2
+scene-and-requires-2 c κs = search needs
+
+scene-and-requires-3 : tie.Need-scene-and-requires-3
+scene-and-requires-3 c κs = search needs
+
+scene-and-requires-4 : tie.Need-scene-and-requires-4
+scene-and-requires-4 c κs = search needs
+
+scene-and-requires-5 : tie.Need-scene-and-requires-5
+scene-and-requires-5 c κs = search needs
+
+scene-and-requires-6 : tie.Need-scene-and-requires-6
+scene-and-requires-6 c κs = search needs
+
+returns : tie.Need-returns
+unfolding kindsOf
+returns c = rw (c .match .keys1)
+
+returns-2 : tie.Need-returns-2
+unfolding kindsOf
+returns-2 c = rw (c .before .match .keys2) (c .scene-and .ensures)
+
+returns-3 : tie.Need-returns-3
+unfolding kindsOf
+returns-3 c = rw (c .before .match .keys3) (c .scene-and2 .ensures)
+
+returns-4 : tie.Need-returns-4
+unfolding kindsOf
+returns-4 c = ⊎-elim (λ e. rw e (c .scene-and3 .ensures)) (λ e. rw e (c .scene-and3 .ensures)) (c .before .match .keys4)
+
+returns-5 : tie.Need-returns-5
+unfolding kindsOf
+returns-5 c = rw (c .match .keys5)
+
+returns-6 : tie.Need-returns-6
+unfolding kindsOf
+returns-6 c = rw (c .match .keys6)
+
+returns-7 : tie.Need-returns-7
+unfolding kindsOf
+returns-7 c = rw (c .before .match .keys7) (c .scene-and4 .ensures)
+
+returns-8 : tie.Need-returns-8
+unfolding kindsOf
+returns-8 c = rw (c .match .keys8)
+
+returns-9 : tie.Need-returns-9
+unfolding kindsOf
+returns-9 c = rw (c .match .keys9)
+
+returns-10 : tie.Need-returns-10
+unfolding kindsOf
+returns-10 c = rw (c .match .keys10)
+
+returns-11 : tie.Need-returns-11
+unfolding kindsOf
+returns-11 c = rw (c .match .keys11)
+
+returns-12 : tie.Need-returns-12
+unfolding kindsOf
+returns-12 c = rw (c .match .keys12)
+
+returns-13 : tie.Need-returns-13
+unfolding kindsOf
+returns-13 c = rw (c .before .match .keys13) (c .scene-and5 .ensures)
+
+returns-14 : tie.Need-returns-14
+unfolding kindsOf
+returns-14 c = rw (c .before .match .keys14) (c .scene-and6 .ensures)
+
+returns-15 : tie.Need-returns-15
+unfolding kindsOf
+returns-15 c =
+    let no = c .match .rest in
+    rw (
+      ne-eqb _ _ (no .0 .0 .0 .0 .0 .0 .0 .0 .0 .0 .0 .0 .0 .1),
+      ne-eqb _ _ (no .0 .0 .0 .0 .0 .0 .0 .0 .0 .0 .0 .0 .1),
+      ne-eqb _ _
+          (no .0 .0 .0 .0 .0 .0 .0 .0 .0 .0 .0 .1),
+      ne-eqb _ 86 (λ e. no .0 .0 .0 .0 .0 .0 .0 .0 .0 .0 .1 (inr e)),
+      ne-eqb _ 82
+          (λ e. no .0 .0 .0 .0 .0 .0 .0 .0 .0 .0 .1 (inl e)),
+      ne-eqb _ _ (no .0 .0 .0 .0 .0 .0 .0 .0 .0 .1),
+      ne-eqb _ _
+          (no .0 .0 .0 .0 .0 .0 .0 .0 .1),
+      ne-eqb _ _ (no .0 .0 .0 .0 .0 .0 .0 .1),
+      ne-eqb _ _ (no .0 .0 .0 .0 .0 .0 .1),
+      ne-eqb _ _
+          (no .0 .0 .0 .0 .0 .1),
+      ne-eqb _ _ (no .0 .0 .0 .0 .1),
+      ne-eqb _ _ (no .0 .0 .0 .1),
+      ne-eqb _ _ (no .0 .0 .1),
+      ne-eqb _ _ (no .0 .1),
+      ne-eqb _ _
+          (no .1),
+    )
+
+pub kinds-of-spec : {M : Type 1} → statement M
+kinds-of-spec =
+    tie.close
+    (tie.spec
+    scene-and-requires
+    scene-and-requires-2
+    scene-and-requires-3
+    scene-and-requires-4
+    scene-and-requires-5
+    scene-and-requires-6
+    returns
+    returns-2
+    returns-3
+    returns-4
+    returns-5
+    returns-6
+    returns-7
+    returns-8
+    returns-9
+    returns-10
+    returns-11
+    returns-12
+    returns-13
+    returns-14
+    returns-15)

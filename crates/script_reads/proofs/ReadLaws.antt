@@ -1,0 +1,133 @@
+-- The laws that take what a read of the table ensures to the definition of its letter. Assumes nothing.
+use Prim.Native.Nat.{ℕ, _≤_, min}
+use mathlib.Core.Path.{_≡_, refl, sym, ap, _∙_}
+use mathlib.Core.Bool.{Bool, true, false, cond}
+use mathlib.Core.List.{List, _++_}
+use native.Mathlib.Omega.{arith}
+use lib.Dec.{eqb, ltb, leb}
+use lib.ListN.{length, take, drop, drop-of-length-le}
+use lib.Seq.{take-all}
+use borrow.Author.Tests.{leb-true, leb-false}
+use Rattle.words.specs.Constants.{success}
+use Rattle.words.specs.declared.Found.{Found}
+use Rattle.words.specs.declared.SceneKey.{SceneKey}
+use Rattle.words.specs.declared.GroupKey.{GroupKey}
+use Rattle.requests.specs.declared.Membership.{Membership}
+use Rattle.state.specs.declared.ScenesState.{ScenesState}
+use Rattle.state.specs.declared.Outcome.{Outcome}
+use Rattle.reads.specs.declared.Transition.{Transition}
+use Rattle.reads.specs.declared.Transition.the-variants.{Stored}
+use Rattle.reads.specs.declared.SceneRead.{SceneRead}
+use Rattle.reads.specs.declared.ListRead.{ListRead}
+use Rattle.reads.specs.declared.InfoRead.{InfoRead}
+use Rattle.state.specs.Table.{Table, tableOf}
+use Rattle.state.specs.Change.{findScene}
+use Rattle.state.specs.Answer.{Result, resultOf, guarded}
+use Rattle.reads.specs.Reads.{readAt, viewScene, Listed, listedOf, listIds, getSceneMembership, infoRow, readFabricSceneInfo}
+use Rattle.script_lines.specs.Values.{valueAt}
+use Rattle.script_answers.specs.declared.Tail.{Tail}
+use Rattle.script_answers.specs.Done.{doneOf, readOf, calledOf}
+use Rattle.script_reads.specs.Reads.{sceneTail, viewed, recalled, infoTail, informed, listTail, listed, list, listIn}
+use Rattle.words.specs.declared.Found.the-variants as finding
+
+-- ---- a read leaves the head as it was
+
+cond-at : {A B : Type 0} (g : A → B) (s : B) (b : Bool) (x y : A) → g x ≡ s → g y ≡ s → g (cond b x y) ≡ s
+cond-at g s true x y p q = p
+cond-at g s false x y p q = q
+
+guarded-at : {A : Type 0} (g : A → ScenesState) (s : ScenesState) (refuse : ℕ → A) (n : ℕ) (o : A)
+    → ((k : ℕ) → g (refuse k) ≡ s) → g o ≡ s → g (guarded refuse n o) ≡ s
+unfolding guarded
+guarded-at g s refuse n o p q = cond-at g s (eqb n success) o (refuse n) q (p n)
+
+read-state : (t : Table) (o : Transition) (x : Found) → readAt x o t .state ≡ t .state
+unfolding readAt
+read-state t o (finding.At p) = refl
+read-state t o finding.Nothing = refl
+
+view-state : (key : SceneKey) (m : Membership) (t : Table) → viewScene key m t .state ≡ t .state
+unfolding viewScene
+view-state key m t = guarded-at (λ (r : SceneRead). r .state) (t .state) _ _ _ (λ k. refl) (read-state t Stored (findScene key t))
+
+ids-state : (l : List ℕ) (n : ℕ) (ids : List ℕ) (t : Table) → listIds l n ids t .read .state ≡ t .state
+unfolding listIds
+ids-state l n ids t = cond-at (λ (r : Listed). r .read .state) (t .state) (ltb (length ids) (length l)) _ _ refl refl
+
+list-state : (key : GroupKey) (m : Membership) (ids : List ℕ) (t : Table) → getSceneMembership key m ids t .read .state ≡ t .state
+unfolding getSceneMembership
+list-state key m ids t = guarded-at (λ (r : Listed). r .read .state) (t .state) _ _ _ (λ k. refl) (ids-state _ _ ids t)
+
+row-state : (x : Found) (fabric n : ℕ) (t : Table) → infoRow x fabric n t .state ≡ t .state
+unfolding infoRow
+row-state (finding.At p) fabric n t = refl
+row-state finding.Nothing fabric n t = cond-at (λ (r : InfoRead). r .state) (t .state) (eqb n 0) _ _ refl refl
+
+info-state : (fabric endpoint : ℕ) (single : Bool) (t : Table) → readFabricSceneInfo fabric endpoint single t .state ≡ t .state
+unfolding readFabricSceneInfo
+info-state fabric endpoint single t = guarded-at (λ (r : InfoRead). r .state) (t .state) _ _ _ (λ k. refl) (row-state _ fabric _ t)
+
+-- ---- answers
+
+module _ (k tm f w : List ℕ) where
+  -- a recall's
+  pub recalled-done : (o : Outcome) (tail : Tail) (found x : SceneRead) (y : Result)
+      → tail ≡ sceneTail found → found ≡ x → resultOf (o .status) (o .save) (tableOf (o .state) k tm f w) ≡ y
+      → doneOf (record { status = o .status; save = o .save; state = o .state; tail = tail }) (tableOf (o .state) k tm f w) ≡ recalled x y
+  recalled-done o tail found x y e p q =
+      let z : tail ≡ sceneTail x = e ∙ ap sceneTail p in
+      λ i. record { status = q i .status; save = q i .save; tail = z i; table = q i .table }
+
+  module _ (s : ScenesState) where
+    abbrev came : Table
+    came = tableOf s k tm f w
+
+    read-done : {n m : ℕ} {tail rest : Tail} {after : ScenesState} → n ≡ m → tail ≡ rest → after ≡ s
+        → readOf n tail (tableOf after k tm f w) ≡ readOf m rest came
+    read-done p q r = λ i. readOf (p i) (q i) (tableOf (r i) k tm f w)
+
+    -- a view's, an info read's and a list's
+    pub viewed-done : (tail : Tail) (found : SceneRead) (key : SceneKey) (m : Membership)
+        → tail ≡ sceneTail found → found ≡ viewScene key m came
+        → readOf (found .status) tail (tableOf (found .state) k tm f w) ≡ viewed (viewScene key m came) came
+    viewed-done tail found key m e p =
+        read-done (ap (λ (r : SceneRead). r .status) p) (e ∙ ap sceneTail p) (ap (λ (r : SceneRead). r .state) p ∙ view-state key m came)
+
+    pub informed-done : (tail : Tail) (row : InfoRead) (fabric endpoint : ℕ) (single : Bool)
+        → tail ≡ infoTail row → row ≡ readFabricSceneInfo fabric endpoint single came
+        → readOf (row .status) tail (tableOf (row .state) k tm f w) ≡ informed (readFabricSceneInfo fabric endpoint single came) came
+    informed-done tail row fabric endpoint single e p =
+        read-done (ap (λ (r : InfoRead). r .status) p) (e ∙ ap infoTail p)
+        (ap (λ (r : InfoRead). r .state) p ∙ info-state fabric endpoint single came)
+
+    pub listed-done : (tail : Tail) (l : ListRead) (after : List ℕ) (key : GroupKey) (m : Membership) (ids : List ℕ)
+        → tail ≡ listTail l → listedOf l after ≡ getSceneMembership key m ids came
+        → calledOf (readOf (l .status) tail (tableOf (l .state) k tm f w)) after ≡ listed (getSceneMembership key m ids came) came
+    listed-done tail l after key m ids e p =
+        let d = read-done (ap (λ (r : Listed). r .read .status) p) (e ∙ ap (λ (r : Listed). listTail (r .read)) p)
+        (ap (λ (r : Listed). r .read .state) p ∙ list-state key m ids came) in
+        λ i. calledOf (d i) (p i .ids)
+
+-- ---- the front of the list buffer
+
+-- as many as there are are the first of all
+front-same : (m n : ℕ) (ids : List ℕ) → m ≡ min n (length ids) → (take m ids ≡ take n ids) × (drop m ids ≡ drop n ids)
+front-same m n ids h =
+    (elim (leb n (length ids)) as (λ b. leb n (length ids) ≡ b → (take m ids ≡ take n ids) × (drop m ids ≡ drop n ids)) [
+      | true ↦ λ e.
+          let l = leb-true n (length ids) e in
+          let q : m ≡ n = omega (arith, l, h) in
+          (ap (λ (k : ℕ). take k ids) q, ap (λ (k : ℕ). drop k ids) q)
+      | false ↦ λ e.
+          let l = leb-false n (length ids) e in
+          let p : length ids ≤ m = omega (arith, l, h) in
+          let q : length ids ≤ n = omega (arith, l) in
+          (take-all m ids p ∙ sym (take-all n ids q), drop-of-length-le ids p ∙ sym (drop-of-length-le ids q))
+    ]) refl
+
+pub list-front : (values ids : List ℕ) (t : Table) (m : ℕ) → m ≡ min (valueAt values 4) (length ids)
+    → calledOf (list values (take m ids) t .done) (list values (take m ids) t .ids ++ drop m ids) ≡ listIn values ids t
+unfolding listIn
+list-front values ids t m h =
+    let q = front-same m (valueAt values 4) ids h in
+    λ i. calledOf (list values (q .0 i) t .done) (list values (q .0 i) t .ids ++ q .1 i)
