@@ -29,6 +29,9 @@ gated c = c .before .before
 abbrev passed : tie.After-word → tie.Else1
 passed c = c .before .before
 
+abbrev sought : tie.After-at → tie.After-find
+sought c = c .before .before
+
 abbrev taken : tie.After-swap-remove-arg3 → tie.After-at
 taken c = c .before .before .before .before
 
@@ -48,8 +51,8 @@ admitted c = admits _ (start (c .before) .pre) _ _ (c .before .lookup-gate .ensu
 found : (c : tie.After-find) → (let g = passed (c .before) .before in c .find .result ≡ findScene (start g .args .key) (came g))
 found c = found-scene _ (came (passed (c .before) .before)) _ _ (c .before .word .ensures) (c .find .ensures)
 
-under : (c : tie.After-at) → c .at .given .0 .0 < start (passed (c .before .before .before) .before) .args .self .state .entries
-under c = found-under _ _ _ _ (sym (found (c .before .before)) ∙ c .at .given .1)
+under : (c : tie.After-at) → c .at .given .0 .0 < start (passed (sought c .before) .before) .args .self .state .entries
+under c = found-under _ _ _ _ (sym (found (sought c)) ∙ c .at .given .1)
 
 returns : tie.Need-returns
 unfolding removeScene
@@ -69,12 +72,12 @@ returns-2 c =
     ∙ admitted p .answers _ _
 
 swap-remove-requires : tie.Need-swap-remove-requires
-swap-remove-requires c κs = let a = taken c in let h = admitted (passed (a .before .before .before)) .room in let u = under a in omega arith
+swap-remove-requires c κs = let a = taken c in let h = admitted (passed (sought a .before)) .room in let u = under a in omega arith
 
 invalidate-current-requires : tie.Need-invalidate-current-requires
 invalidate-current-requires c κs =
     let s = shortened c in
-    let p = passed (taken (s .before) .before .before .before) in
+    let p = passed (sought (taken (s .before)) .before) in
     let h = admitted p .room in
     omega (arith, swapped-recorded (came (p .before)) _ _ _ _ _ (s .swap-remove .ensures), h .recorded, h .records)
 
@@ -84,11 +87,11 @@ returns-3 c =
     let m = marked c in
     let s = shortened (m .before) in
     let a = taken (s .before) in
-    let p = passed (a .before .before .before) in
+    let p = passed (sought a .before) in
     let t = came (p .before) in
     let key = start (p .before) .args .key in
     ap (resultOf success true) (changed-both t (swapRemove (a .at .given .0 .0)) _ _ _ _ (s .swap-remove .ensures) (invalidateCurrent (Scene key)) _ _ (m .invalidate-current .ensures))
-    ∙ ap (λ (x : Found). removeFound x key t) (sym (a .at .given .1) ∙ found (a .before .before))
+    ∙ ap (λ (x : Found). removeFound x key t) (sym (a .at .given .1) ∙ found (sought a))
     ∙ admitted p .answers _ _
 
 pub remove-scene-spec : {M : Type 1} → statement M
