@@ -28,30 +28,6 @@ says c m read after e q =
     let left = q .line ∙ ap (λ (x : Machine). lineLeft (x .trace) (c .args .line .now)) e in
     λ i. saidRuns (said i) (came c (left i) (counted (c .args .machine)))
 
-counted-requires : tie.Need-counted-requires
-counted-requires c κs = search needs
-
-read-line-requires : tie.Need-read-line-requires
-read-line-requires c κs = search needs
-
-enum-told : tie.Need-enum-told
-enum-told c = search needs
-
-enum-known-verdict : tie.Need-enum-known-verdict
-enum-known-verdict c = search needs
-
-wrong-requires : tie.Need-wrong-requires
-wrong-requires c κs = search needs
-
-enum-told-2 : tie.Need-enum-told-2
-enum-told-2 c = search needs
-
-obeyed-requires : tie.Need-obeyed-requires
-obeyed-requires c κs = search needs
-
-same-length : tie.Need-same-length
-same-length c = search needs
-
 returns : tie.Need-returns
 returns c =
     let at-read-line = c .before .before .before .before in
@@ -63,12 +39,6 @@ returns c =
     (came start (at-read-line .read-line .last .0) (counted (a .machine)))) (sym (c .enum-told .given .1))
     ∙ says start _ (at-read-line .read-line .result) (at-read-line .read-line .last .0) (at-counted .counted .ensures)
     (at-read-line .read-line .ensures)
-
-same-length-2 : tie.Need-same-length-2
-same-length-2 c = search needs
-
-same-length-3 : tie.Need-same-length-3
-same-length-3 c = search needs
 
 returns-2 : tie.Need-returns-2
 returns-2 c =
@@ -84,27 +54,6 @@ returns-2 c =
     (came start (at-read-line .read-line .last .0) (counted (start .args .machine)))) (sym (at-verdict .verdict .given .1))
     ∙ says start _ (at-read-line .read-line .result) (at-read-line .read-line .last .0) (at-counted .counted .ensures)
     (at-read-line .read-line .ensures)
-
-same-length-4 : tie.Need-same-length-4
-same-length-4 c = search needs
-
-same-length-5 : tie.Need-same-length-5
-same-length-5 c = search needs
-
-same-length-6 : tie.Need-same-length-6
-same-length-6 c = search needs
-
-same-length-7 : tie.Need-same-length-7
-same-length-7 c = search needs
-
-same-length-8 : tie.Need-same-length-8
-same-length-8 c = search needs
-
-same-length-9 : tie.Need-same-length-9
-same-length-9 c = search needs
-
-same-length-10 : tie.Need-same-length-10
-same-length-10 c = search needs
 
 returns-3 : tie.Need-returns-3
 returns-3 c =
@@ -126,23 +75,23 @@ pub run-line-spec : {M : Type 1} → statement M
 run-line-spec =
     tie.close
     (tie.spec
-    counted-requires
-    read-line-requires
-    enum-told
-    enum-known-verdict
-    wrong-requires
-    enum-told-2
-    obeyed-requires
-    same-length
+    (λ c κs. search needs)
+    (λ c κs. search needs)
+    (λ c. search needs)
+    (λ c. search needs)
+    (λ c κs. search needs)
+    (λ c. search needs)
+    (λ c κs. search needs)
+    (λ c. search needs)
     returns
-    same-length-2
-    same-length-3
+    (λ c. search needs)
+    (λ c. search needs)
     returns-2
-    same-length-4
-    same-length-5
-    same-length-6
-    same-length-7
-    same-length-8
-    same-length-9
-    same-length-10
+    (λ c. search needs)
+    (λ c. search needs)
+    (λ c. search needs)
+    (λ c. search needs)
+    (λ c. search needs)
+    (λ c. search needs)
+    (λ c. search needs)
     returns-3)

@@ -63,12 +63,6 @@ returns-6 c =
       le-ltb _ _ (c .if6 .taken),
     )
 
-mul-result : tie.Need-mul-result
-mul-result c = search needs
-
-add-result : tie.Need-add-result
-add-result c = search needs
-
 returns-7 : tie.Need-returns-7
 unfolding entryFits allOf
 returns-7 c =
@@ -97,6 +91,6 @@ entry-fits-spec =
     returns-4
     returns-5
     returns-6
-    mul-result
-    add-result
+    (λ c. search needs)
+    (λ c. search needs)
     returns-7)
