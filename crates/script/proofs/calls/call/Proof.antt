@@ -1,5 +1,5 @@
 -- `script::calls::call` meets its contract. Assumes nothing.
-use mathlib.Core.Path.{_≡_, sym, ap, _∙_}
+use mathlib.Core.Path.{_≡_, sym, _∙_}
 use mathlib.Core.Bool.{false}
 use mathlib.Core.List.{[], _∷_}
 use Rattle.script_lines.specs.Lines.{oneOf}
@@ -9,10 +9,41 @@ use borrow.Author.Needs.{needs}
 use Rattle.script.proofs.calls.call.Statement.{statement}
 use Rattle.script.proofs.calls.call.Tie as tie
 
--- the entry of the call, and an answer with the list buffer as it came in
+-- the places that the proof refers to, each from a later one
 abbrev start : tie.After-one-of → tie.Start
 start c = c .before .before .before .before .before .before .before .before
 
+abbrev tried : tie.After-one-of2 → tie.Else1
+tried c = c .before .before
+
+abbrev tried-two : tie.After-one-of3 → tie.Else2
+tried-two c = c .before .before
+
+abbrev is-command : tie.After-command → tie.Then1
+is-command c = c .before .before .before .before .before
+
+abbrev commanded : tie.After-slice-known9 → tie.After-command
+commanded c = c .before .before .before .before .before .before .before .before
+
+abbrev is-read : tie.After-query → tie.Then2
+is-read c = c .before .before .before .before .before .before
+
+abbrev queried : tie.After-slice-known11 → tie.After-query
+queried c = c .before .before .before .before
+
+abbrev is-write : tie.After-host-write → tie.Then3
+is-write c = c .before .before .before .before .before
+
+abbrev wrote : tie.After-slice-known15 → tie.After-host-write
+wrote c = c .before .before .before .before .before .before .before .before
+
+abbrev is-event : tie.After-event → tie.Else3
+is-event c = c .before .before .before .before .before
+
+abbrev happened : tie.After-slice-known19 → tie.After-event
+happened c = c .before .before .before .before .before .before .before .before
+
+-- an answer with the list buffer as it came in
 abbrev kept : tie.After-one-of → Done → Called
 kept c d = calledOf d (start c .args .ids .now)
 
@@ -20,40 +51,36 @@ kept c d = calledOf d (start c .args .ids .now)
 no-command : (c : tie.Else1) → oneOf (start (c .before) .args .read .letter) (65 ∷ 83 ∷ 82 ∷ 88 ∷ 67 ∷ []) ≡ false
 no-command c = sym (c .before .one-of .ensures) ∙ c .if1 .left
 
-no-read : (c : tie.Else2) → oneOf (start (c .before .before .before .before) .args .read .letter) (86 ∷ 76 ∷ 77 ∷ 73 ∷ []) ≡ false
+no-read : (c : tie.Else2) → oneOf (start (tried (c .before) .before) .args .read .letter) (86 ∷ 76 ∷ 77 ∷ 73 ∷ []) ≡ false
 no-read c = sym (c .before .one-of2 .ensures) ∙ c .if2 .left
 
 returns : tie.Need-returns
 unfolding call
 returns c =
-    let at-call = c .before .before .before .before .before .before .before .before in
-    let is = at-call .before .before .before .before .before in
-    rw (sym (is .before .one-of .ensures) ∙ is .if1 .taken) (ap (kept (is .before)) (at-call .command .ensures))
+    let is = is-command (commanded c) in
+    rw (sym (is .before .one-of .ensures) ∙ is .if1 .taken) (λ i. kept (is .before) (commanded c .command .ensures i))
 
 returns-2 : tie.Need-returns-2
 unfolding call
 returns-2 c =
-    let at-call = c .before .before .before .before in
-    let is = at-call .before .before .before .before .before .before in
-    rw (no-command (is .before .before .before), sym (is .before .one-of2 .ensures) ∙ is .if2 .taken) (at-call .query .ensures)
+    let is = is-read (queried c) in
+    rw (no-command (tried (is .before)), sym (is .before .one-of2 .ensures) ∙ is .if2 .taken) (queried c .query .ensures)
 
 returns-3 : tie.Need-returns-3
 unfolding call
 returns-3 c =
-    let at-call = c .before .before .before .before .before .before .before .before in
-    let is = at-call .before .before .before .before .before in
-    let no = is .before .before .before in
-    rw (no-command (no .before .before .before), no-read no, sym (is .before .one-of3 .ensures) ∙ is .if3 .taken)
-    (ap (kept (no .before .before .before .before)) (at-call .host-write .ensures))
+    let is = is-write (wrote c) in
+    let no = tried-two (is .before) in
+    let none = tried (no .before) in
+    rw (no-command none, no-read no, sym (is .before .one-of3 .ensures) ∙ is .if3 .taken) (λ i. kept (none .before) (wrote c .host-write .ensures i))
 
 returns-4 : tie.Need-returns-4
 unfolding call
 returns-4 c =
-    let at-call = c .before .before .before .before .before .before .before .before in
-    let is = at-call .before .before .before .before .before in
-    let no = is .before .before .before in
-    rw (no-command (no .before .before .before), no-read no, sym (is .before .one-of3 .ensures) ∙ is .if3 .left)
-    (ap (kept (no .before .before .before .before)) (at-call .event .ensures))
+    let is = is-event (happened c) in
+    let no = tried-two (is .before) in
+    let none = tried (no .before) in
+    rw (no-command none, no-read no, sym (is .before .one-of3 .ensures) ∙ is .if3 .left) (λ i. kept (none .before) (happened c .event .ensures i))
 
 pub call-spec : {M : Type 1} → statement M
 call-spec =
