@@ -31,7 +31,8 @@ returns c =
     let n = front (call c) in
     let a = start n .args in
     let r = call c .list .result in
-    list-front (a .t7 .values) (a .ids .now) (came (start n) (a .state)) _ (doneOf r (came (start n) (r .state))) _ (n .least .ensures) (call c .list .ensures)
+    list-front (a .t7 .values) (a .ids .now) (came (start n) (a .state)) _ (doneOf r (came (start n) (r .state))) _
+    (n .least .ensures) (call c .list .ensures)
 
 pub list-in-spec : {M : Type 1} → statement M
 list-in-spec =

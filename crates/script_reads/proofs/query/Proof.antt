@@ -46,7 +46,8 @@ returns-4 : tie.Need-returns-4
 unfolding query
 returns-4 c =
     let no = at-info c .match .rest in
-    rw (ne-eqb _ _ (no .0 .0 .1), ne-eqb _ _ (no .0 .1), ne-eqb _ _ (no .1)) (λ i. calledOf (c .info .ensures i) (start (at-info c .before) .args .ids .now))
+    rw (ne-eqb _ _ (no .0 .0 .1), ne-eqb _ _ (no .0 .1), ne-eqb _ _ (no .1))
+    (λ i. calledOf (c .info .ensures i) (start (at-info c .before) .args .ids .now))
 
 pub query-spec : {M : Type 1} → statement M
 query-spec =

@@ -57,11 +57,12 @@ returns c =
     let s = slotsOf (a .keys .now) (a .times .now) (a .fields .now) in
     let slots = _∙_ {a = slotsOf (p .put .last .0) (p .put .last .1 .0) (p .put .last .1 .1 .0)}
     {b = putSlot (a .state .entries) (p .before .word .result) (l .long .result) (x .part .result .now) s} (p .put .ensures)
-    (λ i. putSlot (a .state .entries) ((p .before .word .ensures ∙ ap wordOf (k .scene-key .ensures)) i) (l .long .ensures i) (x .part .ensures i) s) in
+    (λ i. putSlot (a .state .entries) ((p .before .word .ensures ∙ ap wordOf (k .scene-key .ensures)) i) (l .long .ensures i)
+    (x .part .ensures i) s) in
     ap (λ (x : Answer). doneOf x (tableOf (x .state) (p .put .last .0) (p .put .last .1 .0) (p .put .last .1 .1 .0) w)) (c .raw .ensures)
     ∙ (λ i. raw success (record { state = withEntryCount (a .state .entries + 1) (a .state); slots = slots i; records = w }))
-    ∙ entry-pushed (a .t6 .values) _ _ (entry-test _ _ (a .t6 .values) (k .scene-key .ensures) _ (bytesAt (a .t6) (a .line .now) 5) (x .part .ensures) _ _ _ _ _
-    (f .before .entry-fits .ensures) (f .if1 .taken))
+    ∙ entry-pushed (a .t6 .values) _ _ (entry-test _ _ (a .t6 .values) (k .scene-key .ensures) _
+    (bytesAt (a .t6) (a .line .now) 5) (x .part .ensures) _ _ _ _ _ (f .before .entry-fits .ensures) (f .if1 .taken))
 
 returns-2 : tie.Need-returns-2
 returns-2 c =

@@ -42,7 +42,8 @@ returns c =
     λ k₀ t f.
     let a = start k .args in
     let values = a .t3 .values in
-    ap (λ (x : Answer). doneOf x (tableOf (x .state) k₀ t f (set (a .records .now) (a .state .recorded) (word .record-word .result)))) (c .raw .ensures)
+    ap (λ (x : Answer). doneOf x (tableOf (x .state) k₀ t f (set (a .records .now) (a .state .recorded) (word .record-word .result))))
+    (c .raw .ensures)
     ∙ (λ i. raw success (withCurrent (appendRecord ((word .record-word .ensures ∙ ap (λ (x : SceneKey). recordWord x (valueAt values 4))
     (k .scene-key .ensures)) i)) (tableOf (a .state) k₀ t f (a .records .now))))
     ∙ record-pushed values _ (record-test _ _ values (k .scene-key .ensures) _ _ _ (yes .before .record-fits .ensures) (yes .if1 .taken))
@@ -54,7 +55,8 @@ returns-2 c =
     λ k₀ t f.
     let a = start k .args in
     ap (λ (x : Answer). doneOf x (tableOf (x .state) k₀ t f (a .records .now))) (c .raw2 .ensures)
-    ∙ record-refused (a .t3 .values) _ (record-test _ _ (a .t3 .values) (k .scene-key .ensures) _ _ _ (no .before .record-fits .ensures) (no .if1 .left))
+    ∙ record-refused (a .t3 .values) _ (record-test _ _ (a .t3 .values) (k .scene-key .ensures) _ _ _ (no .before .record-fits .ensures)
+    (no .if1 .left))
 
 pub push-record-spec : {M : Type 1} → statement M
 push-record-spec =
