@@ -52,16 +52,16 @@ module _ (s : ScenesState) (key : SceneKey) (values : List ℕ) (same : key ≡ 
   entry-test ext bytes p keys times fields b v e h = (λ i. entryFits s (sym same i .fabric) (length (sym p i)) keys times fields) ∙ sym e ∙ h
 
 module _ (s : ScenesState) where
-  pub record-room : (fabric records : ℕ) → recordFits s fabric records ≡ true → s .recorded < records
+  pub record-room : (fabric records : ℕ) {b : Bool} → b ≡ recordFits s fabric records → b ≡ true → s .recorded < records
   unfolding recordFits
-  record-room fabric records e = ltb-true _ _ (all-head _ _ (all-tail _ _ (all-tail _ _ e)))
+  record-room fabric records e h = ltb-true _ _ (all-head _ _ (all-tail _ _ (all-tail _ _ (sym e ∙ h))))
 
   -- what a write of one more entry asks for, in its order
-  pub entry-room : (fabric ext keys times fields : ℕ) → entryFits s fabric ext keys times fields ≡ true
+  pub entry-room : (fabric ext keys times fields : ℕ) {b : Bool} → b ≡ entryFits s fabric ext keys times fields → b ≡ true
       → (ext ≤ maxFields) × ((s .entries < keys) × ((s .entries < times) × (s .entries * stride + stride ≤ fields)))
   unfolding entryFits
-  entry-room fabric ext keys times fields e =
-      let a = all-tail _ _ e in
+  entry-room fabric ext keys times fields e h =
+      let a = all-tail _ _ (sym e ∙ h) in
       let k = all-tail _ _ (all-tail _ _ (all-tail _ _ a)) in
       let t = all-tail _ _ k in
       (leb-true _ _ (all-head _ _ a), (ltb-true _ _ (all-head _ _ k), (ltb-true _ _ (all-head _ _ t), leb-true _ _ (all-head _ _ (all-tail _ _ t)))))

@@ -26,7 +26,7 @@ use Rattle.state.specs.Answer.{Result, resultOf, guarded}
 use Rattle.reads.specs.Reads.{readAt, viewScene, Listed, listedOf, listIds, getSceneMembership, infoRow, readFabricSceneInfo}
 use Rattle.script_lines.specs.Values.{valueAt}
 use Rattle.script_answers.specs.declared.Tail.{Tail}
-use Rattle.script_answers.specs.Done.{doneOf, readOf, calledOf}
+use Rattle.script_answers.specs.Done.{Done, doneOf, readOf, calledOf}
 use Rattle.script_reads.specs.Reads.{sceneTail, viewed, recalled, infoTail, informed, listTail, listed, list, listIn}
 use Rattle.words.specs.declared.Found.the-variants as finding
 
@@ -125,9 +125,11 @@ front-same m n ids h =
           (take-all m ids p ∙ sym (take-all n ids q), drop-of-length-le ids p ∙ sym (drop-of-length-le ids q))
     ]) refl
 
-pub list-front : (values ids : List ℕ) (t : Table) (m : ℕ) → m ≡ min (valueAt values 4) (length ids)
-    → calledOf (list values (take m ids) t .done) (list values (take m ids) t .ids ++ drop m ids) ≡ listIn values ids t
+-- what a list in the front leaves, d and after, with the rest of the buffer behind it
+pub list-front : (values ids : List ℕ) (t : Table) (m : ℕ) (d : Done) (after : List ℕ) → m ≡ min (valueAt values 4) (length ids)
+    → calledOf d after ≡ list values (take m ids) t → calledOf d (after ++ drop m ids) ≡ listIn values ids t
 unfolding listIn
-list-front values ids t m h =
+list-front values ids t m d after h e =
     let q = front-same m (valueAt values 4) ids h in
-    λ i. calledOf (list values (q .0 i) t .done) (list values (q .0 i) t .ids ++ q .1 i)
+    (λ i. calledOf (e i .done) (e i .ids ++ drop m ids))
+    ∙ (λ i. calledOf (list values (q .0 i) t .done) (list values (q .0 i) t .ids ++ q .1 i))

@@ -5,148 +5,90 @@ use borrow.Author.Needs.{needs}
 use Rattle.script_commands.proofs.command.Statement.{statement}
 use Rattle.script_commands.proofs.command.Tie as tie
 
-add-requires : tie.Need-add-requires
-add-requires c κs = search needs
+-- the places that the proof refers to, each from a later one
+abbrev is-add : tie.After-add → tie.At-match-keys1
+is-add c = c .before .before .before .before .before
 
-store-requires : tie.Need-store-requires
-store-requires c κs = search needs
+abbrev adding : tie.After-slice-known8 → tie.After-add
+adding c = c .before .before .before .before .before .before .before .before
 
-remove-requires : tie.Need-remove-requires
-remove-requires c κs = search needs
+abbrev is-store : tie.After-store → tie.At-match-keys2
+is-store c = c .before .before .before .before .before
 
-remove-all-requires : tie.Need-remove-all-requires
-remove-all-requires c κs = search needs
+abbrev storing : tie.After-slice-known12 → tie.After-store
+storing c = c .before .before .before .before .before .before .before .before
 
-copy-requires : tie.Need-copy-requires
-copy-requires c κs = search needs
+abbrev is-remove : tie.After-remove → tie.At-match-keys3
+is-remove c = c .before .before .before .before .before
 
-same-length : tie.Need-same-length
-same-length c = search needs
+abbrev removing : tie.After-slice-known16 → tie.After-remove
+removing c = c .before .before .before .before .before .before .before .before
 
-same-length-2 : tie.Need-same-length-2
-same-length-2 c = search needs
+abbrev is-remove-all : tie.After-remove-all → tie.At-match-keys4
+is-remove-all c = c .before .before .before .before .before
 
-same-length-3 : tie.Need-same-length-3
-same-length-3 c = search needs
+abbrev emptying : tie.After-slice-known20 → tie.After-remove-all
+emptying c = c .before .before .before .before .before .before .before .before
 
-same-length-4 : tie.Need-same-length-4
-same-length-4 c = search needs
+abbrev is-copy : tie.After-copy → tie.At-match-rest
+is-copy c = c .before .before .before .before .before
+
+abbrev copying : tie.After-slice-known24 → tie.After-copy
+copying c = c .before .before .before .before .before .before .before .before
 
 returns : tie.Need-returns
 unfolding command
-returns c =
-    let at-add = c .before .before .before .before .before .before .before .before in
-    let at-match = at-add .before .before .before .before .before in
-    rw (at-match .match .keys1) (at-add .add .ensures)
-
-same-length-5 : tie.Need-same-length-5
-same-length-5 c = search needs
-
-same-length-6 : tie.Need-same-length-6
-same-length-6 c = search needs
-
-same-length-7 : tie.Need-same-length-7
-same-length-7 c = search needs
-
-same-length-8 : tie.Need-same-length-8
-same-length-8 c = search needs
+returns c = rw (is-add (adding c) .match .keys1) (adding c .add .ensures)
 
 returns-2 : tie.Need-returns-2
 unfolding command
-returns-2 c =
-    let at-store = c .before .before .before .before .before .before .before .before in
-    let at-match = at-store .before .before .before .before .before in
-    rw (at-match .match .keys2) (at-store .store .ensures)
-
-same-length-9 : tie.Need-same-length-9
-same-length-9 c = search needs
-
-same-length-10 : tie.Need-same-length-10
-same-length-10 c = search needs
-
-same-length-11 : tie.Need-same-length-11
-same-length-11 c = search needs
-
-same-length-12 : tie.Need-same-length-12
-same-length-12 c = search needs
+returns-2 c = rw (is-store (storing c) .match .keys2) (storing c .store .ensures)
 
 returns-3 : tie.Need-returns-3
 unfolding command
-returns-3 c =
-    let at-remove = c .before .before .before .before .before .before .before .before in
-    let at-match = at-remove .before .before .before .before .before in
-    rw (at-match .match .keys3) (at-remove .remove .ensures)
-
-same-length-13 : tie.Need-same-length-13
-same-length-13 c = search needs
-
-same-length-14 : tie.Need-same-length-14
-same-length-14 c = search needs
-
-same-length-15 : tie.Need-same-length-15
-same-length-15 c = search needs
-
-same-length-16 : tie.Need-same-length-16
-same-length-16 c = search needs
+returns-3 c = rw (is-remove (removing c) .match .keys3) (removing c .remove .ensures)
 
 returns-4 : tie.Need-returns-4
 unfolding command
-returns-4 c =
-    let at-remove-all = c .before .before .before .before .before .before .before .before in
-    let at-match = at-remove-all .before .before .before .before .before in
-    rw (at-match .match .keys4) (at-remove-all .remove-all .ensures)
-
-same-length-17 : tie.Need-same-length-17
-same-length-17 c = search needs
-
-same-length-18 : tie.Need-same-length-18
-same-length-18 c = search needs
-
-same-length-19 : tie.Need-same-length-19
-same-length-19 c = search needs
-
-same-length-20 : tie.Need-same-length-20
-same-length-20 c = search needs
+returns-4 c = rw (is-remove-all (emptying c) .match .keys4) (emptying c .remove-all .ensures)
 
 returns-5 : tie.Need-returns-5
 unfolding command
 returns-5 c =
-    let at-copy = c .before .before .before .before .before .before .before .before in
-    let at-match = at-copy .before .before .before .before .before in
-    let no = at-match .match .rest in
-    rw (ne-eqb _ _ (no .0 .0 .0 .1), ne-eqb _ _ (no .0 .0 .1), ne-eqb _ _ (no .0 .1), ne-eqb _ _ (no .1)) (at-copy .copy .ensures)
+    let no = is-copy (copying c) .match .rest in
+    rw (ne-eqb _ _ (no .0 .0 .0 .1), ne-eqb _ _ (no .0 .0 .1), ne-eqb _ _ (no .0 .1), ne-eqb _ _ (no .1)) (copying c .copy .ensures)
 
 pub command-spec : {M : Type 1} → statement M
 command-spec =
     tie.close
     (tie.spec
-    add-requires
-    store-requires
-    remove-requires
-    remove-all-requires
-    copy-requires
-    same-length
-    same-length-2
-    same-length-3
-    same-length-4
+    (λ c κs. search needs)
+    (λ c κs. search needs)
+    (λ c κs. search needs)
+    (λ c κs. search needs)
+    (λ c κs. search needs)
+    (λ c. search needs)
+    (λ c. search needs)
+    (λ c. search needs)
+    (λ c. search needs)
     returns
-    same-length-5
-    same-length-6
-    same-length-7
-    same-length-8
+    (λ c. search needs)
+    (λ c. search needs)
+    (λ c. search needs)
+    (λ c. search needs)
     returns-2
-    same-length-9
-    same-length-10
-    same-length-11
-    same-length-12
+    (λ c. search needs)
+    (λ c. search needs)
+    (λ c. search needs)
+    (λ c. search needs)
     returns-3
-    same-length-13
-    same-length-14
-    same-length-15
-    same-length-16
+    (λ c. search needs)
+    (λ c. search needs)
+    (λ c. search needs)
+    (λ c. search needs)
     returns-4
-    same-length-17
-    same-length-18
-    same-length-19
-    same-length-20
+    (λ c. search needs)
+    (λ c. search needs)
+    (λ c. search needs)
+    (λ c. search needs)
     returns-5)

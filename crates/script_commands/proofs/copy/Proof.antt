@@ -9,67 +9,48 @@ use borrow.Author.Needs.{needs}
 use Rattle.script_commands.proofs.copy.Statement.{statement}
 use Rattle.script_commands.proofs.copy.Tie as tie
 
+-- the places that the proof refers to, each from a later one
+abbrev start : tie.After-copy-request → tie.Start
+start c = c .before .before .before .before .before
+
+abbrev request : tie.After-member → tie.After-copy-request
+request c = c .before .before
+
+abbrev source : tie.After-member2 → tie.After-member
+source c = c .before .before
+
+abbrev target : tie.After-copy-scene → tie.After-member2
+target c = c .before .before .before .before .before
+
+abbrev call : tie.After-plain → tie.After-copy-scene
+call c = c .before .before .before .before .before .before .before .before .before
+
 -- the table that came in
 abbrev came : tie.Start → Table
 came s = let a = s .args in tableOf (a .state) (a .keys .now) (a .times .now) (a .fields .now) (a .records .now)
 
-copy-request-requires : tie.Need-copy-request-requires
-copy-request-requires c κs = search needs
-
-element-copy-out-member : tie.Need-element-copy-out-member
-element-copy-out-member c = search needs
-
-member-requires : tie.Need-member-requires
-member-requires c κs = search needs
-
-element-copy-out-member-2 : tie.Need-element-copy-out-member-2
-element-copy-out-member-2 c = search needs
-
-member-requires-2 : tie.Need-member-requires-2
-member-requires-2 c κs = search needs
-
-copy-scene-requires : tie.Need-copy-scene-requires
-copy-scene-requires c κs = search needs
-
-plain-requires : tie.Need-plain-requires
-plain-requires c κs = search needs
-
-same-length : tie.Need-same-length
-same-length c = search needs
-
-same-length-2 : tie.Need-same-length-2
-same-length-2 c = search needs
-
-same-length-3 : tie.Need-same-length-3
-same-length-3 c = search needs
-
-same-length-4 : tie.Need-same-length-4
-same-length-4 c = search needs
-
 returns : tie.Need-returns
 unfolding copy
 returns c =
-    let at-call = c .before .before .before .before .before .before .before .before .before in
-    let at-member2 = at-call .before .before .before .before .before in
-    let at-member = at-member2 .before .before in
-    let at-copy-request = at-member .before .before in
-    let start = at-copy-request .before .before .before .before .before in
-    plain-done _ _ _ _ _ _ _ (c .plain .ensures) (at-call .copy-scene .ensures)
-    ∙ (λ i. plain (copyScene (at-copy-request .copy-request .ensures i) (at-member .member .ensures i) (at-member2 .member2 .ensures i) (came start)))
+    let m = target (call c) in
+    let r = request (source m) in
+    plain-done _ _ _ _ _ _ (copyScene (r .copy-request .result) (source m .member .result) (m .member2 .result) (came (start r)))
+    (c .plain .ensures) (call c .copy-scene .ensures)
+    ∙ (λ i. plain (copyScene (r .copy-request .ensures i) (source m .member .ensures i) (m .member2 .ensures i) (came (start r))))
 
 pub copy-spec : {M : Type 1} → statement M
 copy-spec =
     tie.close
     (tie.spec
-    copy-request-requires
-    element-copy-out-member
-    member-requires
-    element-copy-out-member-2
-    member-requires-2
-    copy-scene-requires
-    plain-requires
-    same-length
-    same-length-2
-    same-length-3
-    same-length-4
+    (λ c κs. search needs)
+    (λ c. search needs)
+    (λ c κs. search needs)
+    (λ c. search needs)
+    (λ c κs. search needs)
+    (λ c κs. search needs)
+    (λ c κs. search needs)
+    (λ c. search needs)
+    (λ c. search needs)
+    (λ c. search needs)
+    (λ c. search needs)
     returns)

@@ -1,48 +1,47 @@
 -- `script_reads::list_in` meets its contract. Assumes nothing.
-use mathlib.Core.List.{_++_}
-use mathlib.Core.Path.{ap, _∙_, sym}
-use lib.ListN.{drop}
+use mathlib.Core.Path.{sym}
 use lib.Seq.{length-take-le}
-use Rattle.script_answers.specs.Done.{Called, calledOf}
+use Rattle.state.specs.declared.ScenesState.{ScenesState}
+use Rattle.state.specs.Table.{Table, tableOf}
+use Rattle.script_answers.specs.Done.{doneOf}
 use Rattle.script_reads.proofs.ReadLaws.{list-front}
 use borrow.Author.Needs.{needs}
 use Rattle.script_reads.proofs.list_in.Statement.{statement}
 use Rattle.script_reads.proofs.list_in.Tie as tie
 
-element-copy-out-least : tie.Need-element-copy-out-least
-element-copy-out-least c = search needs
+-- the places that the proof refers to, each from a later one
+abbrev start : tie.After-least → tie.Start
+start c = c .before .before .before .before .before .before .before
 
-least-requires : tie.Need-least-requires
-least-requires c κs = search needs
+abbrev front : tie.After-list → tie.After-least
+front c = c .before .before
 
-slice-relend-prefix-list : tie.Need-slice-relend-prefix-list
-slice-relend-prefix-list c = search needs
+abbrev call : tie.After-slice-known2 → tie.After-list
+call c = c .before .before
+
+-- the table that came in, at a state
+abbrev came : tie.Start → ScenesState → Table
+came s state = let a = s .args in tableOf state (a .keys .now) (a .times .now) (a .fields .now) (a .records .now)
 
 slice-aggregate-list : tie.Need-slice-aggregate-list
 slice-aggregate-list c = sym (length-take-le _ _ (search needs))
 
-list-requires : tie.Need-list-requires
-list-requires c κs = search needs
-
-same-length : tie.Need-same-length
-same-length c = search needs
-
 returns : tie.Need-returns
 returns c =
-    let at-list = c .before .before in
-    let at-least = at-list .before .before in
-    let a = at-least .before .before .before .before .before .before .before .args in
-    ap (λ (x : Called). calledOf (x .done) (x .ids ++ drop (at-least .least .result) (a .ids .now))) (at-list .list .ensures)
-    ∙ list-front (a .t7 .values) (a .ids .now) _ _ (at-least .least .ensures)
+    let n = front (call c) in
+    let a = start n .args in
+    let r = call c .list .result in
+    list-front (a .t7 .values) (a .ids .now) (came (start n) (a .state)) _ (doneOf r (came (start n) (r .state))) _
+    (n .least .ensures) (call c .list .ensures)
 
 pub list-in-spec : {M : Type 1} → statement M
 list-in-spec =
     tie.close
     (tie.spec
-    element-copy-out-least
-    least-requires
-    slice-relend-prefix-list
+    (λ c. search needs)
+    (λ c κs. search needs)
+    (λ c. search needs)
     slice-aggregate-list
-    list-requires
-    same-length
+    (λ c κs. search needs)
+    (λ c. search needs)
     returns)

@@ -1,84 +1,68 @@
 -- `script_reads::query` meets its contract. Assumes nothing.
-use mathlib.Core.Path.{ap}
 use borrow.Author.Tests.{ne-eqb}
-use Rattle.script_answers.specs.Done.{Done, calledOf}
+use Rattle.script_answers.specs.Done.{calledOf}
 use Rattle.script_reads.specs.Reads.{query}
 use borrow.Author.Needs.{needs}
 use Rattle.script_reads.proofs.query.Statement.{statement}
 use Rattle.script_reads.proofs.query.Tie as tie
 
-view-requires : tie.Need-view-requires
-view-requires c κs = search needs
+-- the places that the proof refers to, each from a later one
+abbrev start : tie.After-slice-known2 → tie.Start
+start c = c .before .before .before .before .before
 
-recall-requires : tie.Need-recall-requires
-recall-requires c κs = search needs
+abbrev at-view : tie.After-view → tie.At-match-keys1
+at-view c = c .before .before
 
-list-in-requires : tie.Need-list-in-requires
-list-in-requires c κs = search needs
+abbrev at-recall : tie.After-recall → tie.At-match-keys2
+at-recall c = c .before .before
 
-info-requires : tie.Need-info-requires
-info-requires c κs = search needs
+abbrev recalled : tie.After-slice-known3 → tie.After-recall
+recalled c = c .before .before
 
-same-length : tie.Need-same-length
-same-length c = search needs
+abbrev at-list : tie.After-list-in → tie.At-match-keys3
+at-list c = c .before .before .before
+
+abbrev listed : tie.After-slice-known4 → tie.After-list-in
+listed c = c .before .before
+
+abbrev at-info : tie.After-info → tie.At-match-rest
+at-info c = c .before .before
 
 returns : tie.Need-returns
 unfolding query
-returns c =
-    let at-match = c .before .before in
-    let start = at-match .before .before .before .before .before .before in
-    rw (at-match .match .keys1) (ap (λ (d : Done). calledOf d (start .args .ids .now)) (c .view .ensures))
-
-same-length-2 : tie.Need-same-length-2
-same-length-2 c = search needs
+returns c = rw (at-view c .match .keys1) (λ i. calledOf (c .view .ensures i) (start (at-view c .before) .args .ids .now))
 
 returns-2 : tie.Need-returns-2
 unfolding query
 returns-2 c =
-    let at-recall = c .before .before in
-    let at-match = at-recall .before .before in
-    let start = at-match .before .before .before .before .before .before in
-    rw (at-match .match .keys2) (ap (λ (d : Done). calledOf d (start .args .ids .now)) (at-recall .recall .ensures))
-
-same-length-3 : tie.Need-same-length-3
-same-length-3 c = search needs
-
-same-length-4 : tie.Need-same-length-4
-same-length-4 c = search needs
+    let m = at-recall (recalled c) in
+    rw (m .match .keys2) (λ i. calledOf (recalled c .recall .ensures i) (start (m .before) .args .ids .now))
 
 returns-3 : tie.Need-returns-3
 unfolding query
-returns-3 c =
-    let at-list-in = c .before .before in
-    let at-match = at-list-in .before .before .before in
-    rw (at-match .match .keys3) (at-list-in .list-in .ensures)
-
-same-length-5 : tie.Need-same-length-5
-same-length-5 c = search needs
+returns-3 c = rw (at-list (listed c) .match .keys3) (listed c .list-in .ensures)
 
 returns-4 : tie.Need-returns-4
 unfolding query
 returns-4 c =
-    let at-match = c .before .before in
-    let start = at-match .before .before .before .before .before .before in
-    let no = at-match .match .rest in
+    let no = at-info c .match .rest in
     rw (ne-eqb _ _ (no .0 .0 .1), ne-eqb _ _ (no .0 .1), ne-eqb _ _ (no .1))
-    (ap (λ (d : Done). calledOf d (start .args .ids .now)) (c .info .ensures))
+    (λ i. calledOf (c .info .ensures i) (start (at-info c .before) .args .ids .now))
 
 pub query-spec : {M : Type 1} → statement M
 query-spec =
     tie.close
     (tie.spec
-    view-requires
-    recall-requires
-    list-in-requires
-    info-requires
-    same-length
+    (λ c κs. search needs)
+    (λ c κs. search needs)
+    (λ c κs. search needs)
+    (λ c κs. search needs)
+    (λ c. search needs)
     returns
-    same-length-2
+    (λ c. search needs)
     returns-2
-    same-length-3
-    same-length-4
+    (λ c. search needs)
+    (λ c. search needs)
     returns-3
-    same-length-5
+    (λ c. search needs)
     returns-4)

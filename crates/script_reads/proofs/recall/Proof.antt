@@ -1,6 +1,7 @@
 -- `script_reads::recall` meets its contract. Assumes nothing.
 use mathlib.Core.Path.{_∙_}
 use Rattle.state.specs.Table.{Table, tableOf}
+use Rattle.state.specs.Answer.{resultOf}
 use Rattle.reads.specs.Reads.{recallLookup}
 use Rattle.commands.specs.Commands.{recallScene}
 use Rattle.script_reads.specs.Reads.{recall}
@@ -9,72 +10,61 @@ use borrow.Author.Needs.{needs}
 use Rattle.script_reads.proofs.recall.Statement.{statement}
 use Rattle.script_reads.proofs.recall.Tie as tie
 
+-- the places that the proof refers to, each from a later one
+abbrev start : tie.After-scene-key → tie.Start
+start c = c .before .before .before .before .before
+
+abbrev key : tie.After-member → tie.After-scene-key
+key c = c .before .before
+
+abbrev member : tie.After-transition → tie.After-member
+member c = c .before .before
+
+abbrev time : tie.After-applied → tie.After-transition
+time c = c .before .before
+
+abbrev end : tie.After-recall-lookup → tie.After-applied
+end c = c .before .before
+
+abbrev lookup : tie.After-recall-scene → tie.After-recall-lookup
+lookup c = c .before .before
+
+abbrev call : tie.After-scene-tail → tie.After-recall-scene
+call c = c .before .before .before .before
+
 -- the table that came in
 abbrev came : tie.Start → Table
 came s = let a = s .args in tableOf (a .state) (a .keys .now) (a .times .now) (a .fields .now) (a .records .now)
 
-scene-key-requires : tie.Need-scene-key-requires
-scene-key-requires c κs = search needs
-
-element-copy-out-member : tie.Need-element-copy-out-member
-element-copy-out-member c = search needs
-
-member-requires : tie.Need-member-requires
-member-requires c κs = search needs
-
-element-copy-out-transition : tie.Need-element-copy-out-transition
-element-copy-out-transition c = search needs
-
-transition-requires : tie.Need-transition-requires
-transition-requires c κs = search needs
-
-element-copy-out-applied : tie.Need-element-copy-out-applied
-element-copy-out-applied c = search needs
-
-applied-requires : tie.Need-applied-requires
-applied-requires c κs = search needs
-
-recall-lookup-requires : tie.Need-recall-lookup-requires
-recall-lookup-requires c κs = search needs
-
-recall-scene-requires : tie.Need-recall-scene-requires
-recall-scene-requires c κs = search needs
-
-scene-tail-requires : tie.Need-scene-tail-requires
-scene-tail-requires c κs = search needs
-
-same-length : tie.Need-same-length
-same-length c = search needs
-
 returns : tie.Need-returns
 unfolding recall
 returns c =
-    let at-recall-scene = c .before .before .before .before in
-    let at-recall-lookup = at-recall-scene .before .before in
-    let at-applied = at-recall-lookup .before .before in
-    let at-transition = at-applied .before .before in
-    let at-member = at-transition .before .before in
-    let at-scene-key = at-member .before .before in
-    let start = at-scene-key .before .before .before .before .before in
+    let l = lookup (call c) in
+    let m = member (time (end l)) in
+    let k = key m in
+    let a = start k .args in
+    let r = call c .recall-scene in
+    let after = tableOf (r .result .state) (a .keys .now) (a .times .now) (a .fields .now) (r .last .1 .1 .1 .1 .0) in
     recalled-done _ _ _ _ _ _ _ _ _ (c .scene-tail .ensures)
-    (at-recall-lookup .recall-lookup .ensures ∙ (λ i. recallLookup (at-scene-key .scene-key .ensures i) (at-member .member .ensures i)
-    (at-transition .transition .ensures i) (came start)))
-    (at-recall-scene .recall-scene .ensures ∙ (λ i. recallScene (at-scene-key .scene-key .ensures i) (at-member .member .ensures i)
-    (at-applied .applied .ensures i) (came start)))
+    (_∙_ {b = recallLookup (k .scene-key .result) (m .member .result) (time (end l) .transition .result) (came (start k))} (l .recall-lookup .ensures)
+    (λ i. recallLookup (k .scene-key .ensures i) (m .member .ensures i) (time (end l) .transition .ensures i) (came (start k))))
+    (_∙_ {a = resultOf (r .result .status) (r .result .save) after}
+    {b = recallScene (k .scene-key .result) (m .member .result) (end l .applied .result) (came (start k))} (r .ensures)
+    (λ i. recallScene (k .scene-key .ensures i) (m .member .ensures i) (end l .applied .ensures i) (came (start k))))
 
 pub recall-spec : {M : Type 1} → statement M
 recall-spec =
     tie.close
     (tie.spec
-    scene-key-requires
-    element-copy-out-member
-    member-requires
-    element-copy-out-transition
-    transition-requires
-    element-copy-out-applied
-    applied-requires
-    recall-lookup-requires
-    recall-scene-requires
-    scene-tail-requires
-    same-length
+    (λ c κs. search needs)
+    (λ c. search needs)
+    (λ c κs. search needs)
+    (λ c. search needs)
+    (λ c κs. search needs)
+    (λ c. search needs)
+    (λ c κs. search needs)
+    (λ c κs. search needs)
+    (λ c κs. search needs)
+    (λ c κs. search needs)
+    (λ c. search needs)
     returns)

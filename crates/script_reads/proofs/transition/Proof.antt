@@ -9,11 +9,8 @@ use Rattle.script_reads.proofs.transition.Tie as tie
 returns : tie.Need-returns
 returns c = rw (c .if1 .taken)
 
-long-requires : tie.Need-long-requires
-long-requires c κs = search needs
-
 returns-2 : tie.Need-returns-2
 returns-2 c = rw (ne-eqb _ _ (c .before .if1 .left)) (ap Given (c .long .ensures))
 
 pub transition-spec : {M : Type 1} → statement M
-transition-spec = tie.close (tie.spec returns long-requires returns-2)
+transition-spec = tie.close (tie.spec returns (λ c κs. search needs) returns-2)

@@ -8,42 +8,39 @@ use borrow.Author.Needs.{needs}
 use Rattle.script_reads.proofs.view.Statement.{statement}
 use Rattle.script_reads.proofs.view.Tie as tie
 
+-- the places that the proof refers to, each from a later one
+abbrev start : tie.After-scene-key → tie.Start
+start c = c .before .before .before .before .before
+
+abbrev key : tie.After-member → tie.After-scene-key
+key c = c .before .before
+
+abbrev member : tie.After-view-scene → tie.After-member
+member c = c .before
+
+abbrev call : tie.After-scene-tail → tie.After-view-scene
+call c = c .before .before
+
 -- the table that came in
 abbrev came : tie.Start → Table
 came s = let a = s .args in tableOf (a .state) (a .keys .now) (a .times .now) (a .fields .now) (a .records .now)
 
-scene-key-requires : tie.Need-scene-key-requires
-scene-key-requires c κs = search needs
-
-element-copy-out-member : tie.Need-element-copy-out-member
-element-copy-out-member c = search needs
-
-member-requires : tie.Need-member-requires
-member-requires c κs = search needs
-
-view-scene-requires : tie.Need-view-scene-requires
-view-scene-requires c κs = search needs
-
-scene-tail-requires : tie.Need-scene-tail-requires
-scene-tail-requires c κs = search needs
-
 returns : tie.Need-returns
 unfolding view
 returns c =
-    let at-call = c .before .before in
-    let at-member = at-call .before in
-    let at-scene-key = at-member .before .before in
-    let start = at-scene-key .before .before .before .before .before in
+    let m = member (call c) in
+    let t = came (start (key m)) in
     viewed-done _ _ _ _ _ _ _ _ _ (c .scene-tail .ensures)
-    (at-call .view-scene .ensures ∙ (λ i. viewScene (at-scene-key .scene-key .ensures i) (at-member .member .ensures i) (came start)))
+    (_∙_ {b = viewScene (key m .scene-key .result) (m .member .result) t} (call c .view-scene .ensures)
+    (λ i. viewScene (key m .scene-key .ensures i) (m .member .ensures i) t))
 
 pub view-spec : {M : Type 1} → statement M
 view-spec =
     tie.close
     (tie.spec
-    scene-key-requires
-    element-copy-out-member
-    member-requires
-    view-scene-requires
-    scene-tail-requires
+    (λ c κs. search needs)
+    (λ c. search needs)
+    (λ c κs. search needs)
+    (λ c κs. search needs)
+    (λ c κs. search needs)
     returns)

@@ -14,6 +14,28 @@ use borrow.Author.Needs.{needs}
 use Rattle.script.proofs.runner.run_line.Statement.{statement}
 use Rattle.script.proofs.runner.run_line.Tie as tie
 
+-- the places that the proof refers to, each from a later one
+abbrev start : tie.After-counted → tie.Start
+start c = c .before .before .before .before .before .before .before .before
+
+abbrev counting : tie.After-read-line → tie.After-counted
+counting c = c .before .before
+
+abbrev reading : tie.After-slice-known8 → tie.After-read-line
+reading c = c .before .before
+
+abbrev verdict : tie.After-wrong → tie.After-verdict
+verdict c = c .before .before .before
+
+abbrev refused : tie.After-slice-known9 → tie.After-wrong
+refused c = c .before .before
+
+abbrev told : tie.After-obeyed → tie.After-enum-told2
+told c = c .before .before .before .before .before .before .before .before
+
+abbrev obeying : tie.After-slice-known15 → tie.After-obeyed
+obeying c = c .before .before .before .before .before .before .before .before .before .before .before .before
+
 -- all that came in, at a machine and with a line
 abbrev came : tie.Start → List ℕ → Machine → Session
 came s line m =
@@ -28,121 +50,75 @@ says c m read after e q =
     let left = q .line ∙ ap (λ (x : Machine). lineLeft (x .trace) (c .args .line .now)) e in
     λ i. saidRuns (said i) (came c (left i) (counted (c .args .machine)))
 
-counted-requires : tie.Need-counted-requires
-counted-requires c κs = search needs
+-- all that came in, at a machine and with the line as it was read
+abbrev now-read : tie.After-read-line → Machine → Session
+now-read c m = came (start (counting c)) (c .read-line .last .0) m
 
-read-line-requires : tie.Need-read-line-requires
-read-line-requires c κs = search needs
-
-enum-told : tie.Need-enum-told
-enum-told c = search needs
-
-enum-known-verdict : tie.Need-enum-known-verdict
-enum-known-verdict c = search needs
-
-wrong-requires : tie.Need-wrong-requires
-wrong-requires c κs = search needs
-
-enum-told-2 : tie.Need-enum-told-2
-enum-told-2 c = search needs
-
-obeyed-requires : tie.Need-obeyed-requires
-obeyed-requires c κs = search needs
-
-same-length : tie.Need-same-length
-same-length c = search needs
+-- the verdict of what was read runs the line
+runs : (c : tie.After-read-line) (v : Verdict) → c .read-line .result .verdict ≡ v
+    → (let a = start (counting c) .args in
+    saidRuns (verdictSays v (c .read-line .result) (c .read-line .last .0)) (now-read c (counted (a .machine)))
+    ≡ runLine (came (start (counting c)) (a .line .now) (counted (a .machine))))
+runs c v e =
+    let m = counted (start (counting c) .args .machine) in
+    (λ i. saidRuns (verdictSays (sym e i) (c .read-line .result) (c .read-line .last .0)) (now-read c m))
+    ∙ says (start (counting c)) _ (c .read-line .result) (c .read-line .last .0) (counting c .counted .ensures) (c .read-line .ensures)
 
 returns : tie.Need-returns
 returns c =
-    let at-read-line = c .before .before .before .before in
-    let at-counted = at-read-line .before .before in
-    let start = at-counted .before .before .before .before .before .before .before .before in
-    let a = start .args in
-    ap (came start (at-read-line .read-line .last .0)) (at-counted .counted .ensures)
-    ∙ ap (λ (v : Verdict). saidRuns (verdictSays v (at-read-line .read-line .result) (at-read-line .read-line .last .0))
-    (came start (at-read-line .read-line .last .0) (counted (a .machine)))) (sym (c .enum-told .given .1))
-    ∙ says start _ (at-read-line .read-line .result) (at-read-line .read-line .last .0) (at-counted .counted .ensures)
-    (at-read-line .read-line .ensures)
-
-same-length-2 : tie.Need-same-length-2
-same-length-2 c = search needs
-
-same-length-3 : tie.Need-same-length-3
-same-length-3 c = search needs
+    let r = reading (c .before .before) in
+    (λ i. now-read r (counting r .counted .ensures i)) ∙ runs r _ (c .enum-told .given .1)
 
 returns-2 : tie.Need-returns-2
 returns-2 c =
-    let at-wrong = c .before .before in
-    let at-verdict = at-wrong .before .before .before in
-    let at-read-line = at-verdict .before .before .before .before in
-    let at-counted = at-read-line .before .before in
-    let start = at-counted .before .before .before .before .before .before .before .before in
-    let m = at-counted .counted .result in
-    ended m m _ _ _ _ _ _ _ _ _ _ _ (at-wrong .wrong .ensures)
-    ∙ ap (λ (m : Machine). wrong (at-verdict .verdict .given .0 .0) (came start (at-read-line .read-line .last .0) m)) (at-counted .counted .ensures)
-    ∙ ap (λ (v : Verdict). saidRuns (verdictSays v (at-read-line .read-line .result) (at-read-line .read-line .last .0))
-    (came start (at-read-line .read-line .last .0) (counted (start .args .machine)))) (sym (at-verdict .verdict .given .1))
-    ∙ says start _ (at-read-line .read-line .result) (at-read-line .read-line .last .0) (at-counted .counted .ensures)
-    (at-read-line .read-line .ensures)
+    let v = verdict (refused c) in
+    let r = reading (v .before .before) in
+    let m = counting r .counted in
+    ended (m .result) (m .result) _ _ _ _ _ _ _ _ _ _ _ (refused c .wrong .ensures)
+    ∙ (λ i. wrong (v .verdict .given .0 .0) (now-read r (m .ensures i)))
+    ∙ runs r _ (v .verdict .given .1)
 
-same-length-4 : tie.Need-same-length-4
-same-length-4 c = search needs
-
-same-length-5 : tie.Need-same-length-5
-same-length-5 c = search needs
-
-same-length-6 : tie.Need-same-length-6
-same-length-6 c = search needs
-
-same-length-7 : tie.Need-same-length-7
-same-length-7 c = search needs
-
-same-length-8 : tie.Need-same-length-8
-same-length-8 c = search needs
-
-same-length-9 : tie.Need-same-length-9
-same-length-9 c = search needs
-
-same-length-10 : tie.Need-same-length-10
-same-length-10 c = search needs
+-- what an understood line leaves
+abbrev left : tie.After-obeyed → Session
+left c =
+    let o = c .obeyed in
+    session (o .result .machine) (o .last .1 .0) (o .last .1 .1 .0) (o .last .1 .1 .1 .0) (o .last .1 .1 .1 .1 .0) (o .last .1 .1 .1 .1 .1 .0)
+    (reading (told c .before .before) .read-line .last .0) (sheet (o .last .1 .1 .1 .1 .1 .1 .1 .0) (o .result .at))
 
 returns-3 : tie.Need-returns-3
 returns-3 c =
-    let at-obeyed = c .before .before .before .before .before .before .before .before .before .before .before .before in
-    let at-enum-told2 = at-obeyed .before .before .before .before .before .before .before .before in
-    let at-read-line = at-enum-told2 .before .before .before .before in
-    let at-counted = at-read-line .before .before in
-    let start = at-counted .before .before .before .before .before .before .before .before in
-    let read = at-read-line .read-line .result in
-    let line = at-read-line .read-line .last .0 in
-    let s = came start line (counted (start .args .machine)) in
-    at-obeyed .obeyed .ensures
-    ∙ ap (λ (m : Machine). obeyed (read .letter) (read .values) (bytesAt read line) (came start line m)) (at-counted .counted .ensures)
-    ∙ same-words (read .values) (read .starts) line s (read .letter)
-    ∙ ap (λ (v : Verdict). saidRuns (verdictSays v read line) s) (sym (at-enum-told2 .enum-told2 .given .1))
-    ∙ says start _ read line (at-counted .counted .ensures) (at-read-line .read-line .ensures)
+    let o = obeying c in
+    let r = reading (told o .before .before) in
+    let read = r .read-line .result in
+    let line = r .read-line .last .0 in
+    let m = counting r .counted in
+    let s = now-read r (counted (start (counting r) .args .machine)) in
+    _∙_ {a = left o} {b = obeyed (read .letter) (read .values) (bytesAt read line) (now-read r (m .result))} (o .obeyed .ensures)
+    (_∙_ {b = obeyed (read .letter) (read .values) (bytesAt read line) s}
+    (λ i. obeyed (read .letter) (read .values) (bytesAt read line) (now-read r (m .ensures i)))
+    (same-words (read .values) (read .starts) line s (read .letter) ∙ runs r _ (told o .enum-told2 .given .1)))
 
 pub run-line-spec : {M : Type 1} → statement M
 run-line-spec =
     tie.close
     (tie.spec
-    counted-requires
-    read-line-requires
-    enum-told
-    enum-known-verdict
-    wrong-requires
-    enum-told-2
-    obeyed-requires
-    same-length
+    (λ c κs. search needs)
+    (λ c κs. search needs)
+    (λ c. search needs)
+    (λ c. search needs)
+    (λ c κs. search needs)
+    (λ c. search needs)
+    (λ c κs. search needs)
+    (λ c. search needs)
     returns
-    same-length-2
-    same-length-3
+    (λ c. search needs)
+    (λ c. search needs)
     returns-2
-    same-length-4
-    same-length-5
-    same-length-6
-    same-length-7
-    same-length-8
-    same-length-9
-    same-length-10
+    (λ c. search needs)
+    (λ c. search needs)
+    (λ c. search needs)
+    (λ c. search needs)
+    (λ c. search needs)
+    (λ c. search needs)
+    (λ c. search needs)
     returns-3)

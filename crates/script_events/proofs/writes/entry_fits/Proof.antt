@@ -9,6 +9,19 @@ use borrow.Author.Needs.{needs}
 use Rattle.script_events.proofs.writes.entry_fits.Statement.{statement}
 use Rattle.script_events.proofs.writes.entry_fits.Tie as tie
 
+-- the places that the proof refers to, each from a later one
+abbrev fabric : tie.Else3 → tie.Else1
+fabric c = c .before .before .before
+
+abbrev ext : tie.Else3 → tie.Else2
+ext c = c .before .before
+
+abbrev size : tie.Else5 → tie.Else3
+size c = c .before .before
+
+abbrev scenes : tie.Else5 → tie.Else4
+scenes c = c .before
+
 returns : tie.Need-returns
 unfolding entryFits allOf
 returns c = rw (c .if1 .taken)
@@ -19,71 +32,50 @@ returns-2 c = simp (nonzero _ (c .before .if1 .left), lt-leb _ _ (c .if2 .taken)
 
 returns-3 : tie.Need-returns-3
 unfolding entryFits allOf
-returns-3 c = simp (nonzero _ (c .before .before .before .if1 .left), le-leb _ _ (c .before .before .if2 .left), le-ltb _ _ (c .if3 .taken))
+returns-3 c = let e = c .before .before in simp (nonzero _ (e .before .if1 .left), le-leb _ _ (e .if2 .left), le-ltb _ _ (c .if3 .taken))
 
 returns-4 : tie.Need-returns-4
 unfolding entryFits allOf
 returns-4 c =
-    let at-if3 = c .before in
-    let at-if2 = at-if3 .before .before in
-    let at-if1 = at-if2 .before in
-    simp (nonzero _ (at-if1 .if1 .left), le-leb _ _ (at-if2 .if2 .left), lt-ltb _ _ (at-if3 .if3 .left), le-ltb _ _ (c .if4 .taken))
+    let s = c .before in
+    simp (nonzero _ (fabric s .if1 .left), le-leb _ _ (ext s .if2 .left), lt-ltb _ _ (s .if3 .left), le-ltb _ _ (c .if4 .taken))
 
 returns-5 : tie.Need-returns-5
 unfolding entryFits allOf
 returns-5 c =
-    let at-if4 = c .before in
-    let at-if3 = at-if4 .before in
-    let at-if2 = at-if3 .before .before in
-    let at-if1 = at-if2 .before in
+    let n = c .before in
+    let s = n .before in
     simp (
-      nonzero _ (at-if1 .if1 .left),
-      le-leb _ _ (at-if2 .if2 .left),
-      lt-ltb _ _ (at-if3 .if3 .left),
-      lt-ltb _ _ (at-if4 .if4 .left),
-      le-ltb _ _
-          (c .if5 .taken),
+      nonzero _ (fabric s .if1 .left),
+      le-leb _ _ (ext s .if2 .left),
+      lt-ltb _ _ (s .if3 .left),
+      lt-ltb _ _ (n .if4 .left),
+      le-ltb _ _ (c .if5 .taken),
     )
 
 returns-6 : tie.Need-returns-6
 unfolding entryFits allOf
 returns-6 c =
-    let at-if5 = c .before in
-    let at-if4 = at-if5 .before in
-    let at-if3 = at-if4 .before in
-    let at-if2 = at-if3 .before .before in
-    let at-if1 = at-if2 .before in
+    let k = c .before in
     simp (
-      nonzero _ (at-if1 .if1 .left),
-      le-leb _ _ (at-if2 .if2 .left),
-      lt-ltb _ _ (at-if3 .if3 .left),
-      lt-ltb _ _ (at-if4 .if4 .left),
-      lt-ltb _ _
-          (at-if5 .if5 .left),
+      nonzero _ (fabric (size k) .if1 .left),
+      le-leb _ _ (ext (size k) .if2 .left),
+      lt-ltb _ _ (size k .if3 .left),
+      lt-ltb _ _ (scenes k .if4 .left),
+      lt-ltb _ _ (k .if5 .left),
       le-ltb _ _ (c .if6 .taken),
     )
-
-mul-result : tie.Need-mul-result
-mul-result c = search needs
-
-add-result : tie.Need-add-result
-add-result c = search needs
 
 returns-7 : tie.Need-returns-7
 unfolding entryFits allOf
 returns-7 c =
-    let at-if5 = c .before in
-    let at-if4 = at-if5 .before in
-    let at-if3 = at-if4 .before in
-    let at-if2 = at-if3 .before .before in
-    let at-if1 = at-if2 .before in
+    let k = c .before in
     simp (
-      nonzero _ (at-if1 .if1 .left),
-      le-leb _ _ (at-if2 .if2 .left),
-      lt-ltb _ _ (at-if3 .if3 .left),
-      lt-ltb _ _ (at-if4 .if4 .left),
-      lt-ltb _ _
-          (at-if5 .if5 .left),
+      nonzero _ (fabric (size k) .if1 .left),
+      le-leb _ _ (ext (size k) .if2 .left),
+      lt-ltb _ _ (size k .if3 .left),
+      lt-ltb _ _ (scenes k .if4 .left),
+      lt-ltb _ _ (k .if5 .left),
       lt-ltb _ _ (c .if6 .left),
     ) (sym (and-true _))
 
@@ -97,6 +89,6 @@ entry-fits-spec =
     returns-4
     returns-5
     returns-6
-    mul-result
-    add-result
+    (λ c. search needs)
+    (λ c. search needs)
     returns-7)

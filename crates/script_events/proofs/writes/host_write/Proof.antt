@@ -5,56 +5,44 @@ use borrow.Author.Needs.{needs}
 use Rattle.script_events.proofs.writes.host_write.Statement.{statement}
 use Rattle.script_events.proofs.writes.host_write.Tie as tie
 
-set-version-requires : tie.Need-set-version-requires
-set-version-requires c κs = search needs
+-- the places that the proof refers to, each from a later one
+abbrev at-entry : tie.After-push-entry → tie.At-match-keys2
+at-entry c = c .before .before .before .before
 
-push-entry-requires : tie.Need-push-entry-requires
-push-entry-requires c κs = search needs
+abbrev pushed : tie.After-slice-known7 → tie.After-push-entry
+pushed c = c .before .before .before .before .before .before
 
-push-record-requires : tie.Need-push-record-requires
-push-record-requires c κs = search needs
+abbrev at-record : tie.After-push-record → tie.At-match-rest
+at-record c = c .before .before
+
+abbrev recorded : tie.After-slice-known8 → tie.After-push-record
+recorded c = c .before .before
 
 returns : tie.Need-returns
 unfolding hostWrite
 returns c = rw (c .before .match .keys1) (c .set-version .ensures _ _ _ _)
 
-same-length : tie.Need-same-length
-same-length c = search needs
-
-same-length-2 : tie.Need-same-length-2
-same-length-2 c = search needs
-
-same-length-3 : tie.Need-same-length-3
-same-length-3 c = search needs
-
 returns-2 : tie.Need-returns-2
 unfolding hostWrite
-returns-2 c =
-    let at-push-entry = c .before .before .before .before .before .before in
-    let at-match = at-push-entry .before .before .before .before in
-    rw (at-match .match .keys2) (at-push-entry .push-entry .ensures _)
-
-same-length-4 : tie.Need-same-length-4
-same-length-4 c = search needs
+returns-2 c = rw (at-entry (pushed c) .match .keys2) (pushed c .push-entry .ensures _)
 
 returns-3 : tie.Need-returns-3
 unfolding hostWrite
 returns-3 c =
-    let at-push-record = c .before .before in
-    let at-match = at-push-record .before .before in
-    rw (ne-eqb _ _ (at-match .match .rest .0 .1), ne-eqb _ _ (at-match .match .rest .1)) (at-push-record .push-record .ensures _ _ _)
+    let no = at-record (recorded c) .match .rest in
+    rw (ne-eqb _ _ (no .0 .1), ne-eqb _ _ (no .1)) (recorded c .push-record .ensures _ _ _)
 
 pub host-write-spec : {M : Type 1} → statement M
 host-write-spec =
     tie.close
     (tie.spec
-    set-version-requires
-    push-entry-requires
-    push-record-requires
+    (λ c κs. search needs)
+    (λ c κs. search needs)
+    (λ c κs. search needs)
     returns
-    same-length
-    same-length-2
-    same-length-3
+    (λ c. search needs)
+    (λ c. search needs)
+    (λ c. search needs)
     returns-2
-    same-length-4
+    (λ c. search needs)
     returns-3)

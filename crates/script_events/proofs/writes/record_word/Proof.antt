@@ -4,17 +4,11 @@ use borrow.Author.Needs.{needs}
 use Rattle.script_events.proofs.writes.record_word.Statement.{statement}
 use Rattle.script_events.proofs.writes.record_word.Tie as tie
 
-word-requires : tie.Need-word-requires
-word-requires c κs = search needs
-
 returns : tie.Need-returns
 returns c = rw (c .before .if1 .taken) (c .word .ensures)
-
-valid-record-requires : tie.Need-valid-record-requires
-valid-record-requires c κs = search needs
 
 returns-2 : tie.Need-returns-2
 returns-2 c = rw (ne-eqb _ _ (c .before .if1 .left)) (c .valid-record .ensures)
 
 pub record-word-spec : {M : Type 1} → statement M
-record-word-spec = tie.close (tie.spec word-requires returns valid-record-requires returns-2)
+record-word-spec = tie.close (tie.spec (λ c κs. search needs) returns (λ c κs. search needs) returns-2)

@@ -9,15 +9,6 @@ use borrow.Author.Needs.{needs}
 use Rattle.script_events.proofs.writes.set_version.Statement.{statement}
 use Rattle.script_events.proofs.writes.set_version.Tie as tie
 
-element-copy-out-long : tie.Need-element-copy-out-long
-element-copy-out-long c = search needs
-
-long-requires : tie.Need-long-requires
-long-requires c κs = search needs
-
-raw-requires : tie.Need-raw-requires
-raw-requires c κs = search needs
-
 returns : tie.Need-returns
 unfolding setVersion
 returns c =
@@ -27,4 +18,4 @@ returns c =
     ∙ (λ i. raw success (withVersion (at-long .long .ensures i) (tableOf (start .args .state) k t f w)))
 
 pub set-version-spec : {M : Type 1} → statement M
-set-version-spec = tie.close (tie.spec element-copy-out-long long-requires raw-requires returns)
+set-version-spec = tie.close (tie.spec (λ c. search needs) (λ c κs. search needs) (λ c κs. search needs) returns)

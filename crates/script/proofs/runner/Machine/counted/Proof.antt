@@ -10,11 +10,8 @@ use Rattle.script.proofs.runner.Machine.counted.Tie as tie
 abbrev numbered : Machine → ℕ → Machine
 numbered m n = record { state = m .state; present = m .present; trace = m .trace; lines = n }
 
-wrapping-add-u64-requires : tie.Need-wrapping-add-u64-requires
-wrapping-add-u64-requires c κs = search needs
-
 returns : tie.Need-returns
 returns c = ap (numbered (c .before .args .self)) (c .wrapping-add-u64 .ensures)
 
 pub counted-spec : {M : Type 1} → statement M
-counted-spec = tie.close (tie.spec wrapping-add-u64-requires returns)
+counted-spec = tie.close (tie.spec (λ c κs. search needs) returns)

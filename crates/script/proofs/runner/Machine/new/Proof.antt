@@ -11,11 +11,8 @@ use Rattle.script.proofs.runner.Machine.new.Tie as tie
 abbrev started : Bool → ScenesState → Machine
 started trace state = record { state = state; present = false; trace = trace; lines = 0 }
 
-new-requires : tie.Need-new-requires
-new-requires c κs = search needs
-
 returns : tie.Need-returns
 returns c = ap (started (c .before .args .trace)) (c .new .ensures)
 
 pub new-spec : {M : Type 1} → statement M
-new-spec = tie.close (tie.spec new-requires returns)
+new-spec = tie.close (tie.spec (λ c κs. search needs) returns)

@@ -2,130 +2,112 @@
 use mathlib.Core.Path.{_∙_}
 use Rattle.text_output.specs.Writing.{sheet}
 use Rattle.script_lines.specs.Values.{bytesAt}
-use Rattle.script.specs.Running.{Session, session}
+use Rattle.script_answers.specs.Dump.{tableLines}
+use Rattle.script.specs.Running.{Session, session, tableIn, called}
 use Rattle.script.proofs.RunLaws.{ended, obeys-size, obeys-none, obeys-table, obeys-call}
 use borrow.Author.Needs.{needs}
 use Rattle.script.proofs.runner.Machine.obeyed.Statement.{statement}
 use Rattle.script.proofs.runner.Machine.obeyed.Tie as tie
 
--- the entry of the call, and all that came in
+-- the places that the proof refers to, each from a later one
 abbrev start : tie.After-slice-known6 → tie.Start
 start c = c .before .before .before .before .before .before .before
 
+abbrev is-size : tie.After-sized → tie.Then1
+is-size c = c .before .before .before
+
+abbrev sizing : tie.After-slice-known7 → tie.After-sized
+sizing c = c .before .before
+
+abbrev present : tie.Then3 → tie.Else1
+present c = c .before .before
+
+abbrev is-table : tie.After-dumped → tie.Then3
+is-table c = c .before .before .before .before .before .before
+
+abbrev dumping : tie.After-slice-known8 → tie.After-dumped
+dumping c = c .before .before
+
+abbrev with-table : tie.Else3 → tie.Else1
+with-table c = c .before .before
+
+abbrev is-call : tie.After-called → tie.Else3
+is-call c = c .before .before .before .before .before .before .before
+
+abbrev calling : tie.After-slice-known14 → tie.After-called
+calling c = c .before .before .before .before .before .before .before .before .before .before .before .before
+
+abbrev no-table : tie.After-wrong → tie.Else2
+no-table c = c .before .before
+
+abbrev refused : tie.After-slice-known15 → tie.After-wrong
+refused c = c .before .before
+
+-- all that came in
 abbrev came : tie.After-slice-known6 → Session
 came c =
     let a = start c .args in
     session (a .self) (a .keys .now) (a .times .now) (a .fields .now) (a .records .now) (a .ids .now) (a .line .now) (sheet (a .out .now) (a .at))
 
-element-copy-out-sized : tie.Need-element-copy-out-sized
-element-copy-out-sized c = search needs
-
-sized-requires : tie.Need-sized-requires
-sized-requires c κs = search needs
-
-same-length : tie.Need-same-length
-same-length c = search needs
+-- what a call of the table leaves
+abbrev left : tie.After-called → Session
+left c =
+    let d = c .called in
+    session (d .result .machine) (d .last .1 .0) (d .last .1 .1 .0) (d .last .1 .1 .1 .0) (d .last .1 .1 .1 .1 .0) (d .last .1 .1 .1 .1 .1 .0)
+    (start (with-table (is-call c) .before) .args .line .now) (sheet (d .last .1 .1 .1 .1 .1 .1 .1 .0) (d .result .at))
 
 returns : tie.Need-returns
 returns c =
-    let at-sized = c .before .before in
-    let is = at-sized .before .before .before in
-    ended (start (is .before) .args .self) _ _ _ _ _ _ _ _ _ _ _ _ (at-sized .sized .ensures) ∙ obeys-size _ _ _ (came (is .before)) (is .if1 .taken)
-
-dumped-requires : tie.Need-dumped-requires
-dumped-requires c κs = search needs
-
-same-length-2 : tie.Need-same-length-2
-same-length-2 c = search needs
-
-same-length-3 : tie.Need-same-length-3
-same-length-3 c = search needs
-
-same-length-4 : tie.Need-same-length-4
-same-length-4 c = search needs
-
-same-length-5 : tie.Need-same-length-5
-same-length-5 c = search needs
-
-same-length-6 : tie.Need-same-length-6
-same-length-6 c = search needs
+    let is = is-size (sizing c) in
+    ended (start (is .before) .args .self) _ _ _ _ _ _ _ _ _ _ _ _ (sizing c .sized .ensures)
+    ∙ obeys-size _ _ _ (came (is .before)) (is .if1 .taken)
 
 returns-2 : tie.Need-returns-2
 returns-2 c =
-    let at-dumped = c .before .before in
-    let is = at-dumped .before .before .before .before .before .before in
-    let no = is .before .before in
-    ended (start (no .before) .args .self) _ _ _ _ _ _ _ _ _ _ _ _ (at-dumped .dumped .ensures)
+    let is = is-table (dumping c) in
+    let no = present is in
+    ended (start (no .before) .args .self) _ _ _ _ _ _ _ (tableLines (tableIn (came (no .before)))) _ _ _ _ (dumping c .dumped .ensures)
     ∙ obeys-table _ _ _ (came (no .before)) (no .if1 .left) (is .before .if2 .taken) (is .if3 .taken)
-
-called-requires : tie.Need-called-requires
-called-requires c κs = search needs
-
-same-length-7 : tie.Need-same-length-7
-same-length-7 c = search needs
-
-same-length-8 : tie.Need-same-length-8
-same-length-8 c = search needs
-
-same-length-9 : tie.Need-same-length-9
-same-length-9 c = search needs
-
-same-length-10 : tie.Need-same-length-10
-same-length-10 c = search needs
-
-same-length-11 : tie.Need-same-length-11
-same-length-11 c = search needs
-
-same-length-12 : tie.Need-same-length-12
-same-length-12 c = search needs
 
 returns-3 : tie.Need-returns-3
 returns-3 c =
-    let at-called = c .before .before .before .before .before .before .before .before .before .before .before .before in
-    let is = at-called .before .before .before .before .before .before .before in
-    let no = is .before .before in
+    let is = is-call (calling c) in
+    let no = with-table is in
     let a = start (no .before) .args in
-    at-called .called .ensures
-    ∙ obeys-call (a .t10 .letter) (a .t10 .values) (bytesAt (a .t10) (a .line .now)) (came (no .before))
-    (no .if1 .left) (is .before .if2 .taken) (is .if3 .left)
-
-wrong-requires : tie.Need-wrong-requires
-wrong-requires c κs = search needs
-
-same-length-13 : tie.Need-same-length-13
-same-length-13 c = search needs
+    let bytes = bytesAt (a .t10) (a .line .now) in
+    _∙_ {a = left (calling c)} {b = called (a .t10 .letter) (a .t10 .values) bytes (came (no .before))} (calling c .called .ensures)
+    (obeys-call (a .t10 .letter) (a .t10 .values) bytes (came (no .before)) (no .if1 .left) (is .before .if2 .taken) (is .if3 .left))
 
 returns-4 : tie.Need-returns-4
 returns-4 c =
-    let at-wrong = c .before .before in
-    let is = at-wrong .before .before in
+    let is = no-table (refused c) in
     let no = is .before in
-    ended (start (no .before) .args .self) _ _ _ _ _ _ _ _ _ _ _ _ (at-wrong .wrong .ensures)
+    ended (start (no .before) .args .self) _ _ _ _ _ _ _ _ _ _ _ _ (refused c .wrong .ensures)
     ∙ obeys-none _ _ _ (came (no .before)) (no .if1 .left) (is .if2 .left)
 
 pub obeyed-spec : {M : Type 1} → statement M
 obeyed-spec =
     tie.close
     (tie.spec
-    element-copy-out-sized
-    sized-requires
-    same-length
+    (λ c. search needs)
+    (λ c κs. search needs)
+    (λ c. search needs)
     returns
-    dumped-requires
-    same-length-2
-    same-length-3
-    same-length-4
-    same-length-5
-    same-length-6
+    (λ c κs. search needs)
+    (λ c. search needs)
+    (λ c. search needs)
+    (λ c. search needs)
+    (λ c. search needs)
+    (λ c. search needs)
     returns-2
-    called-requires
-    same-length-7
-    same-length-8
-    same-length-9
-    same-length-10
-    same-length-11
-    same-length-12
+    (λ c κs. search needs)
+    (λ c. search needs)
+    (λ c. search needs)
+    (λ c. search needs)
+    (λ c. search needs)
+    (λ c. search needs)
+    (λ c. search needs)
     returns-3
-    wrong-requires
-    same-length-13
+    (λ c κs. search needs)
+    (λ c. search needs)
     returns-4)
