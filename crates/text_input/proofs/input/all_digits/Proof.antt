@@ -28,7 +28,9 @@ shared-slice-read-digit-value : tie.Need-shared-slice-read-digit-value Inv-loop 
 shared-slice-read-digit-value c = omega arith
 
 returns : tie.Need-returns Inv-loop μ-loop
-returns c = sym (turn (c .before) .loop .inv ∙ all-digits-bad _ _ (test (c .before) .loop-test .taken) _ (c .before .digit-value .ensures) (omega arith))
+returns c =
+    let d = c .before in
+    sym (turn d .loop .inv ∙ all-digits-bad _ _ (test d .loop-test .taken) _ (d .digit-value .ensures) (omega arith))
 
 add-i : tie.Need-add-i Inv-loop μ-loop
 add-i c = omega arith
@@ -37,7 +39,9 @@ loop-less : tie.Need-loop-less Inv-loop μ-loop
 loop-less c = omega arith
 
 loop-again : tie.Need-loop-again Inv-loop μ-loop
-loop-again c = turn (c .before) .loop .inv ∙ all-digits-next _ _ (test (c .before) .loop-test .taken) _ (c .before .digit-value .ensures) (omega arith)
+loop-again c =
+    let d = c .before in
+    turn d .loop .inv ∙ all-digits-next _ _ (test d .loop-test .taken) _ (d .digit-value .ensures) (omega arith)
 
 returns-2 : tie.Need-returns-2 Inv-loop μ-loop
 returns-2 c = sym (c .before .loop .inv ∙ all-digits-end _ _ (c .loop-test .left))

@@ -18,8 +18,8 @@ abbrev μ-loop : tie.MeasureT-loop
 abbrev turn : tie.After-hex-value Inv-loop μ-loop → tie.At-loop Inv-loop μ-loop
 turn c = c .before .before .before
 
-abbrev hex-value : tie.After-hex-value2 Inv-loop μ-loop → tie.After-hex-value Inv-loop μ-loop
-hex-value c = c .before .before .before
+abbrev high : tie.After-hex-value2 Inv-loop μ-loop → tie.After-hex-value Inv-loop μ-loop
+high c = c .before .before .before
 
 loop-holds : tie.Need-loop-holds Inv-loop μ-loop
 loop-holds c = (omega arith, refl)
@@ -31,7 +31,9 @@ shared-slice-read-hex-value : tie.Need-shared-slice-read-hex-value Inv-loop μ-l
 shared-slice-read-hex-value c = omega arith
 
 returns : tie.Need-returns Inv-loop μ-loop
-returns c = sym (turn (c .before) .loop .inv .1 ∙ all-pairs-high _ (turn (c .before) .loop .i) (omega arith) _ _ (c .before .hex-value .ensures) refl (omega arith))
+returns c =
+    let at = turn (c .before) .loop in
+    sym (at .inv .1 ∙ all-pairs-high _ (at .i) (omega arith) _ _ (c .before .hex-value .ensures) refl (omega arith))
 
 mul-hex-value-2 : tie.Need-mul-hex-value-2 Inv-loop μ-loop
 mul-hex-value-2 c = omega arith
@@ -43,7 +45,10 @@ shared-slice-read-hex-value-2 : tie.Need-shared-slice-read-hex-value-2 Inv-loop 
 shared-slice-read-hex-value-2 c = omega arith
 
 returns-2 : tie.Need-returns-2 Inv-loop μ-loop
-returns-2 c = sym (turn (hex-value (c .before)) .loop .inv .1 ∙ all-pairs-low _ (turn (hex-value (c .before)) .loop .i) (omega arith) _ _ (hex-value (c .before) .hex-value .ensures) (c .before .hex-value2 .ensures) (omega arith) (omega arith))
+returns-2 c =
+    let h = high (c .before) in
+    let at = turn h .loop in
+    sym (at .inv .1 ∙ all-pairs-low _ (at .i) (omega arith) _ _ (h .hex-value .ensures) (c .before .hex-value2 .ensures) (omega arith) (omega arith))
 
 add-i : tie.Need-add-i Inv-loop μ-loop
 add-i c = omega arith
@@ -52,7 +57,11 @@ loop-less : tie.Need-loop-less Inv-loop μ-loop
 loop-less c = omega arith
 
 loop-again : tie.Need-loop-again Inv-loop μ-loop
-loop-again c = (omega arith, turn (hex-value (c .before)) .loop .inv .1 ∙ all-pairs-next _ (turn (hex-value (c .before)) .loop .i) (omega arith) _ _ (hex-value (c .before) .hex-value .ensures) (c .before .hex-value2 .ensures) (omega arith) (omega arith))
+loop-again c =
+    let h = high (c .before) in
+    let at = turn h .loop in
+    (omega arith,
+    at .inv .1 ∙ all-pairs-next _ (at .i) (omega arith) _ _ (h .hex-value .ensures) (c .before .hex-value2 .ensures) (omega arith) (omega arith))
 
 mul-result : tie.Need-mul-result Inv-loop μ-loop
 mul-result c = omega arith

@@ -48,10 +48,16 @@ slice-read-hex-value-2 : tie.Need-slice-read-hex-value-2 Inv-loop μ-loop
 slice-read-hex-value-2 c = omega arith
 
 mul-word : tie.Need-mul-word Inv-loop μ-loop
-mul-word c = let p = turn c .loop in let d = pairs-are (p .word) (p .i) (omega arith) _ _ (c .before .before .hex-value .ensures) (c .hex-value2 .ensures) (p .inv .3) in omega arith
+mul-word c =
+    let p = turn c .loop in
+    let d = pairs-are (p .word) (p .i) (omega arith) _ _ (c .before .before .hex-value .ensures) (c .hex-value2 .ensures) (p .inv .3) in
+    omega arith
 
 add-word : tie.Need-add-word Inv-loop μ-loop
-add-word c = let p = turn c .loop in let d = pairs-are (p .word) (p .i) (omega arith) _ _ (c .before .before .hex-value .ensures) (c .hex-value2 .ensures) (p .inv .3) in omega arith
+add-word c =
+    let p = turn c .loop in
+    let d = pairs-are (p .word) (p .i) (omega arith) _ _ (c .before .before .hex-value .ensures) (c .hex-value2 .ensures) (p .inv .3) in
+    omega arith
 
 slice-write-word : tie.Need-slice-write-word Inv-loop μ-loop
 slice-write-word c = omega arith

@@ -22,8 +22,8 @@ turn c = c .before .before .before
 abbrev test : tie.After-digit-value Inv-loop μ-loop → tie.In-loop Inv-loop μ-loop
 test c = c .before .before
 
-abbrev digit-value : tie.Else3 Inv-loop μ-loop → tie.After-digit-value Inv-loop μ-loop
-digit-value c = c .before .before
+abbrev valued : tie.Else3 Inv-loop μ-loop → tie.After-digit-value Inv-loop μ-loop
+valued c = c .before .before
 
 returns : tie.Need-returns Inv-loop μ-loop
 unfolding numberOf
@@ -40,10 +40,14 @@ cast-digit : tie.Need-cast-digit Inv-loop μ-loop
 cast-digit c = omega (arith, c .digit-value .ok)
 
 returns-2 : tie.Need-returns-2 Inv-loop μ-loop
-returns-2 c = sym (turn (c .before) .loop .inv ∙ number-bad _ _ _ _ (test (c .before) .loop-test .taken) _ (c .before .digit-value .ensures) (c .if2 .taken))
+returns-2 c =
+    let d = c .before in
+    sym (turn d .loop .inv ∙ number-bad _ _ _ _ (test d .loop-test .taken) _ (d .digit-value .ensures) (c .if2 .taken))
 
 returns-3 : tie.Need-returns-3 Inv-loop μ-loop
-returns-3 c = sym (turn (c .before .before) .loop .inv ∙ number-large _ _ _ _ (test (c .before .before) .loop-test .taken) _ (c .before .before .digit-value .ensures) (c .before .if2 .left) (omega arith))
+returns-3 c =
+    let d = c .before .before in
+    sym (turn d .loop .inv ∙ number-large _ _ _ _ (test d .loop-test .taken) _ (d .digit-value .ensures) (c .before .if2 .left) (omega arith))
 
 mul-if4 : tie.Need-mul-if4 Inv-loop μ-loop
 mul-if4 c = omega arith
@@ -52,7 +56,9 @@ sub-if4 : tie.Need-sub-if4 Inv-loop μ-loop
 sub-if4 c = omega arith
 
 returns-4 : tie.Need-returns-4 Inv-loop μ-loop
-returns-4 c = sym (turn (digit-value (c .before)) .loop .inv ∙ number-large _ _ _ _ (test (digit-value (c .before)) .loop-test .taken) _ (digit-value (c .before) .digit-value .ensures) (c .before .before .if2 .left) (omega arith))
+returns-4 c =
+    let d = valued (c .before) in
+    sym (turn d .loop .inv ∙ number-large _ _ _ _ (test d .loop-test .taken) _ (d .digit-value .ensures) (c .before .before .if2 .left) (omega arith))
 
 mul-value : tie.Need-mul-value Inv-loop μ-loop
 mul-value c = omega arith
@@ -67,7 +73,9 @@ loop-less : tie.Need-loop-less Inv-loop μ-loop
 loop-less c = omega arith
 
 loop-again : tie.Need-loop-again Inv-loop μ-loop
-loop-again c = turn (digit-value (c .before)) .loop .inv ∙ number-next _ _ _ _ (test (digit-value (c .before)) .loop-test .taken) _ (digit-value (c .before) .digit-value .ensures) (c .before .before .if2 .left) (omega arith)
+loop-again c =
+    let d = valued (c .before) in
+    turn d .loop .inv ∙ number-next _ _ _ _ (test d .loop-test .taken) _ (d .digit-value .ensures) (c .before .before .if2 .left) (omega arith)
 
 returns-5 : tie.Need-returns-5 Inv-loop μ-loop
 returns-5 c = sym (c .before .loop .inv ∙ number-end _ _ _ _ (c .loop-test .left))

@@ -23,7 +23,10 @@ returns-2 c =
     take-all (length (a .line .now) - a .from) whole (omega arith) ∙ sym (take-all (a .count) whole (omega arith))
 
 returns-3 : tie.Need-returns-3
-returns-3 c = let a = c .before .before .args in let l : length (a .line .now) ≤ a .from = omega arith in sym (ap (take (a .count)) (drop-of-length-le (a .line .now) l) ∙ take-nil (a .count))
+returns-3 c =
+    let a = c .before .before .args in
+    let l : length (a .line .now) ≤ a .from = omega arith in
+    sym (ap (take (a .count)) (drop-of-length-le (a .line .now) l) ∙ take-nil (a .count))
 
 pub part-spec : {M : Type 1} → statement M
 part-spec =

@@ -34,10 +34,14 @@ loop-less : tie.Need-loop-less Inv-loop μ-loop
 loop-less c = omega arith
 
 loop-again : tie.Need-loop-again Inv-loop μ-loop
-loop-again c = sym (past-next blank _ _ (test (c .before) .loop-test .taken) (sym (c .before .is-blank .ensures) ∙ c .if1 .taken)) ∙ turn (c .before) .loop .inv
+loop-again c =
+    let b = c .before in
+    sym (past-next blank _ _ (test b .loop-test .taken) (sym (b .is-blank .ensures) ∙ c .if1 .taken)) ∙ turn b .loop .inv
 
 returns : tie.Need-returns Inv-loop μ-loop
-returns c = sym (past-stop blank _ _ (test (c .before) .loop-test .taken) (sym (c .before .is-blank .ensures) ∙ c .if1 .left)) ∙ turn (c .before) .loop .inv
+returns c =
+    let b = c .before in
+    sym (past-stop blank _ _ (test b .loop-test .taken) (sym (b .is-blank .ensures) ∙ c .if1 .left)) ∙ turn b .loop .inv
 
 returns-2 : tie.Need-returns-2 Inv-loop μ-loop
 returns-2 c = sym (past-end blank _ _ (c .loop-test .left)) ∙ c .before .loop .inv

@@ -29,7 +29,9 @@ shared-slice-read-is-blank : tie.Need-shared-slice-read-is-blank Inv-loop μ-loo
 shared-slice-read-is-blank c = omega arith
 
 returns : tie.Need-returns Inv-loop μ-loop
-returns c = sym (past-stop inWord _ _ (test (c .before) .loop-test .taken) (ap not (sym (c .before .is-blank .ensures) ∙ c .if1 .taken))) ∙ turn (c .before) .loop .inv
+returns c =
+    let b = c .before in
+    sym (past-stop inWord _ _ (test b .loop-test .taken) (ap not (sym (b .is-blank .ensures) ∙ c .if1 .taken))) ∙ turn b .loop .inv
 
 add-i : tie.Need-add-i Inv-loop μ-loop
 add-i c = omega arith
@@ -38,7 +40,9 @@ loop-less : tie.Need-loop-less Inv-loop μ-loop
 loop-less c = omega arith
 
 loop-again : tie.Need-loop-again Inv-loop μ-loop
-loop-again c = sym (past-next inWord _ _ (test (c .before) .loop-test .taken) (ap not (sym (c .before .is-blank .ensures) ∙ c .if1 .left))) ∙ turn (c .before) .loop .inv
+loop-again c =
+    let b = c .before in
+    sym (past-next inWord _ _ (test b .loop-test .taken) (ap not (sym (b .is-blank .ensures) ∙ c .if1 .left))) ∙ turn b .loop .inv
 
 returns-2 : tie.Need-returns-2 Inv-loop μ-loop
 returns-2 c = sym (past-end inWord _ _ (c .loop-test .left)) ∙ c .before .loop .inv

@@ -25,17 +25,14 @@ abbrev μ-loop : tie.MeasureT-loop
 abbrev start : tie.At-loop Inv-loop μ-loop → tie.Start Inv-loop μ-loop
 start c = c .before .before .before
 
-abbrev turn : tie.Then1 Inv-loop μ-loop → tie.At-loop Inv-loop μ-loop
-turn c = c .before .before .before
+abbrev turn : tie.After-shared-slice-known2 Inv-loop μ-loop → tie.At-loop Inv-loop μ-loop
+turn c = c .before .before
 
-abbrev turn-2 : tie.After-slice-known2 Inv-loop μ-loop → tie.At-loop Inv-loop μ-loop
-turn-2 c = c .before .before .before .before .before .before .before
+abbrev test : tie.After-shared-slice-known2 Inv-loop μ-loop → tie.In-loop Inv-loop μ-loop
+test c = c .before
 
-abbrev test : tie.After-slice-known2 Inv-loop μ-loop → tie.In-loop Inv-loop μ-loop
-test c = c .before .before .before .before .before .before
-
-abbrev else1 : tie.After-slice-known2 Inv-loop μ-loop → tie.Else1 Inv-loop μ-loop
-else1 c = c .before .before .before .before
+abbrev other : tie.After-slice-known2 Inv-loop μ-loop → tie.Else1 Inv-loop μ-loop
+other c = c .before .before .before .before
 
 loop-holds : tie.Need-loop-holds Inv-loop μ-loop
 loop-holds c = (refl, refl, refl)
@@ -47,14 +44,15 @@ add-i : tie.Need-add-i Inv-loop μ-loop
 add-i c = omega arith
 
 same-length : tie.Need-same-length Inv-loop μ-loop
-same-length c = turn c .loop .inv .0
+same-length c = turn (c .before) .loop .inv .0
 
 returns : tie.Need-returns Inv-loop μ-loop
 returns c =
-    let at = turn c .loop in
-    let e = line-end _ _ _ (at .inv .1) (c .before .before .loop-test .taken) (ap not (eq-eqb _ _ (c .if1 .taken))) in
+    let at = turn (c .before) .loop in
+    let a = start (turn (c .before)) .args in
+    let e = line-end _ _ _ (at .inv .1) (test (c .before) .loop-test .taken) (ap not (eq-eqb _ _ (c .if1 .taken))) in
     record {
-      ended = sym (lt-ltb (lineEnd (start (turn c) .args .chunk .now) (start (turn c) .args .from)) (length (start (turn c) .args .chunk .now)) (omega arith));
+      ended = sym (lt-ltb (lineEnd (a .chunk .now) (a .from)) (length (a .chunk .now)) (omega arith));
       next = omega arith;
       bytes = sym (sym (at .inv .2) ∙ line-done _ _ _ (at .inv .1) _ e);
     }
@@ -64,9 +62,10 @@ loop-less c = omega arith
 
 loop-again : tie.Need-loop-again Inv-loop μ-loop
 loop-again c =
-    let at = turn-2 c .loop in
-    let h = test c .loop-test .taken in
-    let n = ap not (ne-eqb _ _ (else1 c .if1 .left)) in (
+    let o = other c in
+    let at = turn (o .before) .loop in
+    let h = test (o .before) .loop-test .taken in
+    let n = ap not (ne-eqb _ _ (o .if1 .left)) in (
       c .before .before .put .kept .0 ∙ at .inv .0,
       line-on _ _ _ (at .inv .1) h n,
       ap (puts _) (c .before .before .put .ensures) ∙ sym (line-next _ _ _ (at .inv .1) _ h n) ∙ at .inv .2,
@@ -78,9 +77,10 @@ same-length-2 c = c .before .loop .inv .0
 returns-2 : tie.Need-returns-2 Inv-loop μ-loop
 returns-2 c =
     let at = c .before .loop in
+    let a = start (c .before) .args in
     let e = chunk-end _ _ _ (at .inv .1) (c .loop-test .left) in
     record {
-      ended = sym (le-ltb (lineEnd (start (c .before) .args .chunk .now) (start (c .before) .args .from)) (length (start (c .before) .args .chunk .now)) (omega arith));
+      ended = sym (le-ltb (lineEnd (a .chunk .now) (a .from)) (length (a .chunk .now)) (omega arith));
       next = omega arith;
       bytes = sym (sym (at .inv .2) ∙ line-done _ _ _ (at .inv .1) _ e);
     }
