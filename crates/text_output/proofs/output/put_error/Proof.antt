@@ -6,18 +6,22 @@ use Rattle.text_output.proofs.output.put_error.Statement.{statement}
 use Rattle.text_output.proofs.output.put_error.Tie as tie
 
 -- the places that the proof refers to, each from a later one
-abbrev text : tie.After-slice-known5 → tie.After-put-text
-text c = c .before .before .before .before .before .before .before .before .before .before .before .before .before .before
+abbrev text : tie.After-put-number → tie.After-put-text
+text c = c .before .before .before .before
 
-abbrev number : tie.After-slice-known5 → tie.After-put-number
-number c = c .before .before .before .before .before .before .before .before .before .before
+abbrev number : tie.After-put-reason → tie.After-put-number
+number c = c .before .before .before .before
 
-abbrev reason : tie.After-slice-known5 → tie.After-put-reason
-reason c = c .before .before .before .before .before .before
+abbrev reason : tie.After-end-line → tie.After-put-reason
+reason c = c .before .before .before .before
 
 returns : tie.Need-returns
 unfolding writes
-returns c = c .before .before .end-line .ensures ∙ ap (puts _) (reason c .put-reason .ensures ∙ ap (puts _) (number c .put-number .ensures ∙ ap (puts _) (text c .put-text .ensures)))
+returns c =
+    let end = c .before .before in
+    let r = reason end in
+    let n = number r in
+    end .end-line .ensures ∙ ap (puts _) (r .put-reason .ensures ∙ ap (puts _) (n .put-number .ensures ∙ ap (puts _) (text n .put-text .ensures)))
 
 pub put-error-spec : {M : Type 1} → statement M
 put-error-spec =

@@ -6,25 +6,19 @@ use Rattle.text_output.proofs.output.put_status.Statement.{statement}
 use Rattle.text_output.proofs.output.put_status.Tie as tie
 
 -- the places that the proof refers to, each from a later one
-abbrev is-fault-2 : tie.After-slice-known5 → tie.After-is-fault
-is-fault-2 c = c .before .before .before .before .before
+abbrev fault : tie.After-slice-known4 → tie.Then1
+fault c = c .before .before .before .before .before .before .before .before
 
-abbrev is-fault : tie.After-slice-known4 → tie.After-is-fault
-is-fault c = c .before .before .before .before .before .before .before .before .before
-
-abbrev else1 : tie.After-slice-known5 → tie.Else1
-else1 c = c .before .before .before .before
-
-abbrev then1 : tie.After-slice-known4 → tie.Then1
-then1 c = c .before .before .before .before .before .before .before .before
+abbrev plain : tie.After-slice-known5 → tie.Else1
+plain c = c .before .before .before .before
 
 returns : tie.Need-returns
 unfolding puts statusText
-returns c = rw (sym (is-fault c .is-fault .ensures) ∙ then1 c .if1 .taken) (cc)
+returns c = rw (sym (fault c .before .is-fault .ensures) ∙ fault c .if1 .taken) (cc)
 
 returns-2 : tie.Need-returns-2
 unfolding puts statusText
-returns-2 c = rw (sym (is-fault-2 c .is-fault .ensures) ∙ else1 c .if1 .left) (cc)
+returns-2 c = rw (sym (plain c .before .is-fault .ensures) ∙ plain c .if1 .left) (cc)
 
 pub put-status-spec : {M : Type 1} → statement M
 put-status-spec =
