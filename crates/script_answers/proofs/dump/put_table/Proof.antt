@@ -45,8 +45,8 @@ listed : (c : tie.After-put-entries)
     ≡ writesBelow (entryLine (came s)) (min (a .state .entries) (length (a .keys .now))) (writes (countsLine (a .state)) (sheet (a .out .now) (a .at))))
 listed c =
     c .put-entries .ensures
-    ∙ (λ k. writesBelow (shown (came (stored (counts (c .before)))) (stored (counts (c .before)) .stored .ensures) k) (stored (counts (c .before)) .before .before .least .ensures k)
-    (counts (c .before) .put-counts .ensures k))
+    ∙ (λ k. writesBelow (shown (came (stored (counts (c .before)))) (stored (counts (c .before)) .stored .ensures) k)
+    (stored (counts (c .before)) .before .before .least .ensures k) (counts (c .before) .put-counts .ensures k))
 
 put-entries-requires : tie.Need-put-entries-requires
 put-entries-requires c κs =
@@ -56,7 +56,8 @@ returns : tie.Need-returns
 unfolding tableLines
 returns c =
     put c .put-records .ensures
-    ∙ (λ i. writesBelow (λ j. recordLine (getD (came (shows (put c)) .records) j 0)) (shows (put c) .before .least2 .ensures i) (listed (entries (put c)) i))
+    ∙ (λ i. writesBelow (λ j. recordLine (getD (came (shows (put c)) .records) j 0)) (shows (put c) .before .least2 .ensures i)
+    (listed (entries (put c)) i))
 
 pub put-table-spec : {M : Type 1} → statement M
 put-table-spec =

@@ -1,8 +1,10 @@
 -- `script_lines::reader::read_line` meets its contract. Assumes nothing.
+use Prim.Native.Nat.{ℕ}
 use mathlib.Core.Path.{sym, ap, _∙_}
-use lib.ListN.{drop}
+use mathlib.Core.List.{List, _++_}
+use lib.ListN.{getD, take, drop}
 use Rattle.script_lines.specs.declared.reader.Verdict.{Verdict}
-use Rattle.script_lines.specs.Lines.{verdictSays}
+use Rattle.script_lines.specs.Lines.{kindsOf, Said, verdictSays, wordsSay, wordsLeft}
 use Rattle.script_lines.proofs.LineLaws.{left-blank, left-comment, left-long, left-unknown, left-letter, says-blank, says-comment, says-unknown, says-letter, letter-known, letter-unknown}
 use borrow.Author.Needs.{needs}
 use Rattle.script_lines.proofs.reader.read_line.Statement.{statement}
@@ -23,6 +25,19 @@ known c = c .before .before
 
 abbrev read : tie.After-slice-known3 → tie.After-read-words
 read c = c .before .before
+
+-- what the words behind the letter say, and what is left of the line
+abbrev said : tie.After-next-word → Said
+said c =
+    let line = start c .args .line .now in
+    let letter = getD line (c .next-word .result .from) 0 in
+    wordsSay (start c .args .trace) letter (kindsOf letter) (drop (c .next-word .result .to) line)
+
+abbrev left : tie.After-next-word → List ℕ
+left c =
+    let line = start c .args .line .now in
+    let w = c .next-word .result in
+    take (w .to) line ++ wordsLeft (start c .args .trace) (kindsOf (getD line (w .from) 0)) (drop (w .to) line)
 
 returns : tie.Need-returns
 returns c =
@@ -63,12 +78,12 @@ returns-4 c =
     let l = letter s in
     record {
       says =
-          read c .read-words .ensures .says
-          ∙ letter-known _ _ _ (sym (k .before .is-known .ensures) ∙ k .if4 .taken)
-          ∙ says-letter _ _ _ (word l .next-word .ensures) (l .before .if1 .left) (s .before .if2 .left) (s .if3 .left);
+          _∙_ {b = said (word (letter (known (read c) .before .before)))} (read c .read-words .ensures .says)
+          (letter-known _ _ _ (sym (k .before .is-known .ensures) ∙ k .if4 .taken)
+          ∙ says-letter _ _ _ (word l .next-word .ensures) (l .before .if1 .left) (s .before .if2 .left) (s .if3 .left));
       line =
-          read c .read-words .ensures .line
-          ∙ left-letter _ _ _ (word l .next-word .ensures) (s .if3 .left) (sym (k .before .is-known .ensures) ∙ k .if4 .taken);
+          _∙_ {b = left (word (letter (known (read c) .before .before)))} (read c .read-words .ensures .line)
+          (left-letter _ _ _ (word l .next-word .ensures) (s .if3 .left) (sym (k .before .is-known .ensures) ∙ k .if4 .taken));
     }
 
 returns-5 : tie.Need-returns-5

@@ -59,9 +59,10 @@ loop-less c = omega arith
 loop-again : tie.Need-loop-again Inv-loop μ-loop
 loop-again c =
     let h = high (c .before) in
-    let at = turn h .loop in
-    (omega arith,
-    at .inv .1 ∙ all-pairs-next _ (at .i) (omega arith) _ _ (h .hex-value .ensures) (c .before .hex-value2 .ensures) (omega arith) (omega arith))
+    let at = turn h .loop in (
+      omega arith,
+      at .inv .1 ∙ all-pairs-next _ (at .i) (omega arith) _ _ (h .hex-value .ensures) (c .before .hex-value2 .ensures) (omega arith) (omega arith),
+    )
 
 mul-result : tie.Need-mul-result Inv-loop μ-loop
 mul-result c = omega arith

@@ -30,32 +30,57 @@ returns-2 c = simp (le-leb _ _ (c .before .if1 .left), lt-ltb _ _ (c .if2 .taken
 returns-3 : tie.Need-returns-3
 unfolding hexValue
 returns-3 c =
-    simp (le-ltb _ _ (c .before .if2 .left), le-leb _ _ (c .before .before .if1 .left),
-    lt-leb _ _ (c .if3 .taken), lt-leb 97 (start c .args .b) (omega arith))
+    simp (
+      le-ltb _ _ (c .before .if2 .left),
+      le-leb _ _ (c .before .before .if1 .left),
+      lt-leb _ _ (c .if3 .taken),
+      lt-leb 97 (start c .args .b) (omega arith),
+    )
 
 returns-4 : tie.Need-returns-4
 unfolding hexValue
 returns-4 c =
-    simp (le-leb _ _ (not1 (c .before) .if1 .left), le-ltb _ _ (c .before .before .if2 .left),
-    le-leb _ _ (c .before .if3 .left), lt-ltb _ _ (c .if4 .taken))
+    simp (
+      le-leb _ _ (not1 (c .before) .if1 .left),
+      le-ltb _ _ (c .before .before .if2 .left),
+      le-leb _ _ (c .before .if3 .left),
+      lt-ltb _ _ (c .if4 .taken),
+    )
 
 returns-5 : tie.Need-returns-5
 unfolding hexValue
 returns-5 c =
-    simp (le-leb _ _ (not1 (c .before .before) .if1 .left), le-ltb _ _ (not2 (c .before) .if2 .left), le-leb _ _ (c .before .before .if3 .left),
-    le-ltb _ _ (c .before .if4 .left), lt-leb _ _ (c .if5 .taken))
+    simp (
+      le-leb _ _ (not1 (c .before .before) .if1 .left),
+      le-ltb _ _ (not2 (c .before) .if2 .left),
+      le-leb _ _ (c .before .before .if3 .left),
+      le-ltb _ _ (c .before .if4 .left),
+      lt-leb _ _ (c .if5 .taken),
+    )
 
 returns-6 : tie.Need-returns-6
 unfolding hexValue
 returns-6 c =
-    simp (le-leb _ _ (not1 (not3 (c .before)) .if1 .left), le-ltb _ _ (not2 (c .before .before) .if2 .left), le-leb _ _ (not3 (c .before) .if3 .left),
-    le-ltb _ _ (c .before .before .if4 .left), le-leb _ _ (c .before .if5 .left), lt-ltb _ _ (c .if6 .taken))
+    simp (
+      le-leb _ _ (not1 (not3 (c .before)) .if1 .left),
+      le-ltb _ _ (not2 (c .before .before) .if2 .left),
+      le-leb _ _ (not3 (c .before) .if3 .left),
+      le-ltb _ _ (c .before .before .if4 .left),
+      le-leb _ _ (c .before .if5 .left),
+      lt-ltb _ _ (c .if6 .taken),
+    )
 
 returns-7 : tie.Need-returns-7
 unfolding hexValue
 returns-7 c =
-    simp (le-leb _ _ (not1 (not3 (c .before)) .if1 .left), le-ltb _ _ (not2 (c .before .before) .if2 .left), le-leb _ _ (not3 (c .before) .if3 .left),
-    le-ltb _ _ (c .before .before .if4 .left), le-leb _ _ (c .before .if5 .left), le-ltb _ _ (c .if6 .left))
+    simp (
+      le-leb _ _ (not1 (not3 (c .before)) .if1 .left),
+      le-ltb _ _ (not2 (c .before .before) .if2 .left),
+      le-leb _ _ (not3 (c .before) .if3 .left),
+      le-ltb _ _ (c .before .before .if4 .left),
+      le-leb _ _ (c .before .if5 .left),
+      le-ltb _ _ (c .if6 .left),
+    )
 
 pub hex-value-spec : {M : Type 1} → statement M
 hex-value-spec =

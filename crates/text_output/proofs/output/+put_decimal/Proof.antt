@@ -28,13 +28,16 @@ claims t = (put-reads.Asked, put-reads.Learnt, put-decimal-below t, put-decimal.
 
 module _ (t : ℕ) where
   -- the places that the proof refers to, each from a later one
-  abbrev one : put-decimal-lts.After-slice-known2 (claims t) (put-decimal-at t) put-decimal.Post → put-decimal-lts.Then1 (claims t) (put-decimal-at t) put-decimal.Post
+  abbrev one : put-decimal-lts.After-slice-known2 (claims t) (put-decimal-at t) put-decimal.Post
+      → put-decimal-lts.Then1 (claims t) (put-decimal-at t) put-decimal.Post
   one c = c .before .before .before .before
 
-  abbrev more : put-decimal-lts.After-put-decimal (claims t) (put-decimal-at t) put-decimal.Post → put-decimal-lts.Else1 (claims t) (put-decimal-at t) put-decimal.Post
+  abbrev more : put-decimal-lts.After-put-decimal (claims t) (put-decimal-at t) put-decimal.Post
+      → put-decimal-lts.Else1 (claims t) (put-decimal-at t) put-decimal.Post
   more c = c .before .before
 
-  abbrev rest : put-decimal-lts.After-put2 (claims t) (put-decimal-at t) put-decimal.Post → put-decimal-lts.After-put-decimal (claims t) (put-decimal-at t) put-decimal.Post
+  abbrev rest : put-decimal-lts.After-put2 (claims t) (put-decimal-at t) put-decimal.Post
+      → put-decimal-lts.After-put-decimal (claims t) (put-decimal-at t) put-decimal.Post
   rest c = c .before .before .before .before
 
   put-decimal-returns : put-decimal-lts.Need-returns (claims t) (put-decimal-at t) put-decimal.Post
