@@ -1,6 +1,6 @@
 -- The answer to the line that the buffer holds stands whole, run or too long. Assumes nothing.
 use Prim.Native.Nat.{ℕ, _+_, _<_, _≤_}
-use mathlib.Core.Path.{_≡_, ap, _∙_}
+use mathlib.Core.Path.{_≡_, ap, subst, _∙_}
 use mathlib.Core.Bool.{Bool, cond}
 use mathlib.Core.List.{List}
 use native.Mathlib.Omega.{arith}
@@ -23,16 +23,18 @@ module _ (m : Machine) (keys times fields records ids line : List ℕ) (held : �
   abbrev too-long-on : Sheet → Sheet
   too-long-on s = writes (errorLine (counted m .lines) TooLong) s
 
-  pub ran-whole : held < length line → length keys ≤ maxScenes → length records ≤ maxScenes
-      → length (run-on (sheet out at) .ids) ≤ maxScenes → at + longest ≤ length out → sheet after next ≡ run-on (sheet out at) .output
+  -- s is the session that the line leaves
+  pub ran-whole : {s : Session} → s ≡ run-on (sheet out at) → sheet after next ≡ s .output → length (s .ids) ≤ maxScenes
+      → held < length line → length keys ≤ maxScenes → length records ≤ maxScenes → at + longest ≤ length out
       → Whole (heldAnswer m keys times fields records ids line held) out at after next
-  ran-whole l k r i o e =
-      let p = line-puts (counted m) keys times fields records ids (take held line) maxScenes (sheet out at) i in
+  ran-whole q e i l k r o =
+      let few = subst (λ (s : Session). length (s .ids) ≤ maxScenes) q i in
+      let p = line-puts (counted m) keys times fields records ids (take held line) maxScenes (sheet out at) few in
       record {
         text = p .text;
         short = omega (arith, p .short, k, r);
         says = λ s. ap (λ (b : Bool). cond b (run-on s .output) (too-long-on s)) (lt-ltb held (length line) l) ∙ p .put s;
-        stands = e ∙ p .put (sheet out at) ∙ puts-whole (p .text) out at (omega (arith, p .short, k, r, o));
+        stands = e ∙ ap (λ (s : Session). s .output) q ∙ p .put (sheet out at) ∙ puts-whole (p .text) out at (omega (arith, p .short, k, r, o));
       }
 
   pub too-long-whole : length line ≤ held → at + longest ≤ length out → sheet after next ≡ too-long-on (sheet out at)

@@ -3,7 +3,10 @@ use Rattle.console.proofs.Arrays.{array-long}
 use Rattle.console.proofs.buffered.Statement.{statement}
 use Rattle.console.proofs.buffered.Tie as tie
 
--- where the lengths are known from
+-- the places that the proof refers to, each from a later one
+abbrev start : tie.After-out → tie.Start
+start c = c .before .before .before .before .before .before .before .before .before .before .before .before .before
+
 abbrev ran : tie.After-chunk2 → tie.After-run
 ran c = c .before .before .before .before .before .before .before .before .before .before .before .before
 
@@ -14,25 +17,7 @@ slice-aggregate-run-2 : tie.Need-slice-aggregate-run-2
 slice-aggregate-run-2 c = array-long 0x10000
 
 run-requires : tie.Need-run-requires
-run-requires c κs = c .before .before .before .before .before .before .before .before .before .before .before .before .before .pre
-
-same-length : tie.Need-same-length
-same-length c = ran c .run .kept .1 .0
-
-same-length-2 : tie.Need-same-length-2
-same-length-2 c = ran c .run .kept .1 .1 .0
-
-same-length-3 : tie.Need-same-length-3
-same-length-3 c = ran c .run .kept .1 .1 .1 .0
-
-same-length-4 : tie.Need-same-length-4
-same-length-4 c = ran c .run .kept .1 .1 .1 .1 .0
-
-same-length-5 : tie.Need-same-length-5
-same-length-5 c = ran c .run .kept .1 .1 .1 .1 .1 .0
-
-returns : tie.Need-returns
-returns c = tt
+run-requires c κs = start c .pre
 
 pub buffered-spec : {M : Type 1} → statement M
 buffered-spec =
@@ -41,9 +26,9 @@ buffered-spec =
     slice-aggregate-run
     slice-aggregate-run-2
     run-requires
-    same-length
-    same-length-2
-    same-length-3
-    same-length-4
-    same-length-5
-    returns)
+    (λ c. ran c .run .kept .1 .0)
+    (λ c. ran c .run .kept .1 .1 .0)
+    (λ c. ran c .run .kept .1 .1 .1 .0)
+    (λ c. ran c .run .kept .1 .1 .1 .1 .0)
+    (λ c. ran c .run .kept .1 .1 .1 .1 .1 .0)
+    (λ c. tt))

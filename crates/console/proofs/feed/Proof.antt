@@ -25,35 +25,42 @@ abbrev μ-loop : tie.MeasureT-loop
 μ-loop m₀ keys₀ times₀ fields₀ records₀ ids₀ line₀ before chunk out₀ held₀ from₀ at₀ takes₀ m keys times fields records ids line out held from at takes =
     length chunk - from
 
--- the places that the facts come from: the start of the turn, and where its bytes were gathered and its line was run
-abbrev turn : tie.After-gather Inv-loop μ-loop → tie.At-loop Inv-loop μ-loop
-turn g = g .before .before .before
+-- the places that the proof refers to, each from a later one
+abbrev start : tie.At-loop Inv-loop μ-loop → tie.Start Inv-loop μ-loop
+start c = c .before .before .before .before .before .before .before .before .before
 
-abbrev gathered : tie.After-step Inv-loop μ-loop → tie.After-gather Inv-loop μ-loop
-gathered d = d .before .before .before .before .before .before .before .before .before .before .before
+abbrev turn : tie.After-gather Inv-loop μ-loop → tie.At-loop Inv-loop μ-loop
+turn c = c .before .before .before
+
+abbrev last : tie.After-flush Inv-loop μ-loop → tie.At-loop Inv-loop μ-loop
+last c = c .before .before .before
+
+abbrev unended : tie.Else1 Inv-loop μ-loop → tie.After-gather Inv-loop μ-loop
+unended c = c .before .before .before
+
+abbrev gathered : tie.After-step-arg7 Inv-loop μ-loop → tie.After-gather Inv-loop μ-loop
+gathered c = c .before .before .before .before .before .before .before .before .before .before
 
 abbrev ran : tie.After-m Inv-loop μ-loop → tie.After-step Inv-loop μ-loop
 ran c = c .before .before .before .before .before .before .before .before .before .before .before .before .before .before .before
 
-abbrev more : (g : tie.After-gather Inv-loop μ-loop) → turn g .loop .from < length (turn g .before .before .before .before .before .before .before .before .before .args .chunk .now)
-more g = below-and _ (length (turn g .before .before .before .before .before .before .before .before .before .args .chunk .now)) (turn g .loop .takes) (g .before .before .loop-test .taken)
+-- there is more to take at each turn
+abbrev more : (c : tie.After-gather Inv-loop μ-loop) → turn c .loop .from < length (start (turn c) .args .chunk .now)
+more c = below-and _ (length (start (turn c) .args .chunk .now)) (turn c .loop .takes) (c .before .before .loop-test .taken)
 
 loop-holds : tie.Need-loop-holds Inv-loop μ-loop
 loop-holds c = (refl, refl, refl, refl, refl, refl, refl, omega arith)
 
-gather-requires : tie.Need-gather-requires Inv-loop μ-loop
-gather-requires c κs = search needs
-
 step-requires : tie.Need-step-requires Inv-loop μ-loop
 step-requires c κs =
-    let l = c .before .before .before .before .before .before .before .before .before .before .before .before .before in
+    let l = turn (gathered c) in
     let i = l .loop .inv in
-    let p = l .before .before .before .before .before .before .before .before .before .pre in
+    let p = start l .pre in
     (omega (arith, i .0, p .0), (omega (arith, i .3, p .1 .0), (omega (arith, i .4, p .1 .1 .0), (i .7, omega (arith, i .6, p .1 .1 .1)))))
 
 loop-less : tie.Need-loop-less Inv-loop μ-loop
 loop-less c =
-    let g = gathered (ran c) in
+    let g = gathered (ran c .before) in
     let t = more g in
     let n = gathers-on _ _ _ _ _ _ (g .gather .ensures) t in
     omega arith
@@ -62,7 +69,7 @@ loop-again : tie.Need-loop-again Inv-loop μ-loop
 loop-again c =
     let d = ran c in
     let k = d .step .kept .1 in
-    let g = gathered d in
+    let g = gathered (d .before) in
     let i = turn g .loop .inv in (
       k .0 ∙ i .0,
       k .1 .0 ∙ i .1,
@@ -76,43 +83,16 @@ loop-again c =
 
 loop-less-2 : tie.Need-loop-less-2 Inv-loop μ-loop
 loop-less-2 c =
-    let g = c .before .before .before in
+    let g = unended c in
     let t = more g in
     let n = gathers-on _ _ _ _ _ _ (g .gather .ensures) t in
     omega arith
 
 loop-again-2 : tie.Need-loop-again-2 Inv-loop μ-loop
 loop-again-2 c =
-    let g = c .before .before .before in
+    let g = unended c in
     let i = turn g .loop .inv in
     (i .0, i .1, i .2, i .3, i .4, g .gather .kept .1 .1 .0 ∙ i .5, i .6, i .7)
-
-flush-requires : tie.Need-flush-requires Inv-loop μ-loop
-flush-requires c κs = search needs
-
-same-length : tie.Need-same-length Inv-loop μ-loop
-same-length c = c .before .before .before .loop .inv .0
-
-same-length-2 : tie.Need-same-length-2 Inv-loop μ-loop
-same-length-2 c = c .before .before .before .loop .inv .1
-
-same-length-3 : tie.Need-same-length-3 Inv-loop μ-loop
-same-length-3 c = c .before .before .before .loop .inv .2
-
-same-length-4 : tie.Need-same-length-4 Inv-loop μ-loop
-same-length-4 c = c .before .before .before .loop .inv .3
-
-same-length-5 : tie.Need-same-length-5 Inv-loop μ-loop
-same-length-5 c = c .before .before .before .loop .inv .4
-
-same-length-6 : tie.Need-same-length-6 Inv-loop μ-loop
-same-length-6 c = c .before .before .before .loop .inv .5
-
-same-length-7 : tie.Need-same-length-7 Inv-loop μ-loop
-same-length-7 c = c .before .before .before .loop .inv .6
-
-returns : tie.Need-returns Inv-loop μ-loop
-returns c = search needs
 
 pub feed-spec : {M : Type 1} → statement M
 feed-spec =
@@ -121,18 +101,18 @@ feed-spec =
     Inv-loop
     μ-loop
     loop-holds
-    gather-requires
+    (λ c κs. search needs)
     step-requires
     loop-less
     loop-again
     loop-less-2
     loop-again-2
-    flush-requires
-    same-length
-    same-length-2
-    same-length-3
-    same-length-4
-    same-length-5
-    same-length-6
-    same-length-7
-    returns)
+    (λ c κs. search needs)
+    (λ c. last c .loop .inv .0)
+    (λ c. last c .loop .inv .1)
+    (λ c. last c .loop .inv .2)
+    (λ c. last c .loop .inv .3)
+    (λ c. last c .loop .inv .4)
+    (λ c. last c .loop .inv .5)
+    (λ c. last c .loop .inv .6)
+    (λ c. search needs))

@@ -17,8 +17,12 @@ Inv-loop out₀ at ids len n next₀ i₀ out next i =
 abbrev μ-loop : tie.MeasureT-loop
 μ-loop out₀ at ids len n next₀ i₀ out next i = n - i
 
-least-requires : tie.Need-least-requires Inv-loop μ-loop
-least-requires c κs = tt
+-- the places that the proof refers to, each from a later one
+abbrev start : tie.At-loop Inv-loop μ-loop → tie.Start Inv-loop μ-loop
+start c = c .before .before .before .before
+
+abbrev turn : tie.After-shared-slice-known2 Inv-loop μ-loop → tie.At-loop Inv-loop μ-loop
+turn c = c .before .before .before
 
 loop-holds : tie.Need-loop-holds Inv-loop μ-loop
 loop-holds c = (refl, omega arith, c .least .ensures, sym (below-none _ _))
@@ -27,10 +31,7 @@ shared-slice-read-put-number : tie.Need-shared-slice-read-put-number Inv-loop μ
 shared-slice-read-put-number c = omega arith
 
 cast-put-number : tie.Need-cast-put-number Inv-loop μ-loop
-cast-put-number c = omega (arith, c .shared-slice-known2 .given (c .before .before .before .loop .i))
-
-put-number-requires : tie.Need-put-number-requires Inv-loop μ-loop
-put-number-requires c κs = tt
+cast-put-number c = omega (arith, c .shared-slice-known2 .given (turn c .loop .i))
 
 add-i : tie.Need-add-i Inv-loop μ-loop
 add-i c = omega arith
@@ -42,7 +43,7 @@ loop-again : tie.Need-loop-again Inv-loop μ-loop
 unfolding writes
 loop-again c =
     let at-put-number = c .before .before in
-    let at-loop = at-put-number .before .before .before .before in
+    let at-loop = turn (at-put-number .before) in
     let at = at-loop .loop .inv in (
       at-put-number .put-number .kept .0 ∙ at .0,
       omega arith,
@@ -56,8 +57,8 @@ same-length c = c .before .loop .inv .0
 returns : tie.Need-returns Inv-loop μ-loop
 returns c =
     let at-loop = c .before in
-    let start = at-loop .before .before .before .before in
-    let e : min (start .args .len) (length (start .args .ids .now)) ≡ at-loop .loop .i = omega arith in rw e (at-loop .loop .inv .3)
+    let s = start at-loop in
+    let e : min (s .args .len) (length (s .args .ids .now)) ≡ at-loop .loop .i = omega arith in rw e (at-loop .loop .inv .3)
 
 pub put-ids-spec : {M : Type 1} → statement M
 put-ids-spec =
@@ -65,11 +66,11 @@ put-ids-spec =
     (tie.spec
     Inv-loop
     μ-loop
-    least-requires
+    (λ c κs. tt)
     loop-holds
     shared-slice-read-put-number
     cast-put-number
-    put-number-requires
+    (λ c κs. tt)
     add-i
     loop-less
     loop-again

@@ -5,20 +5,12 @@ use borrow.Author.Needs.{needs}
 use Rattle.script_answers.proofs.answers.put_list.Statement.{statement}
 use Rattle.script_answers.proofs.answers.put_list.Tie as tie
 
-put-number-requires : tie.Need-put-number-requires
-put-number-requires c κs = search needs
-
-put-ids-requires : tie.Need-put-ids-requires
-put-ids-requires c κs = search needs
-
-same-length : tie.Need-same-length
-same-length c = search needs
+-- the places that the proof refers to, each from a later one
+abbrev number : tie.After-put-ids → tie.After-put-number
+number c = c .before .before .before .before
 
 returns : tie.Need-returns
-returns c =
-    let at-put-ids = c .before .before in
-    let at-put-number = at-put-ids .before .before .before .before in
-    at-put-ids .put-ids .ensures ∙ ap (writesBelow _ _) (at-put-number .put-number .ensures)
+returns c = c .before .before .put-ids .ensures ∙ ap (writesBelow _ _) (number (c .before .before) .put-number .ensures)
 
 pub put-list-spec : {M : Type 1} → statement M
-put-list-spec = tie.close (tie.spec put-number-requires put-ids-requires same-length returns)
+put-list-spec = tie.close (tie.spec (λ c κs. search needs) (λ c κs. search needs) (λ c. search needs) returns)

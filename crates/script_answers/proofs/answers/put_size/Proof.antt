@@ -5,27 +5,22 @@ use borrow.Author.Needs.{needs}
 use Rattle.script_answers.proofs.answers.put_size.Statement.{statement}
 use Rattle.script_answers.proofs.answers.put_size.Tie as tie
 
-put-size-word-requires : tie.Need-put-size-word-requires
-put-size-word-requires c κs = search needs
+-- the places that the proof refers to, each from a later one
+abbrev size-word : tie.After-put-number → tie.After-put-size-word
+size-word c = c .before .before .before .before
 
-put-number-requires : tie.Need-put-number-requires
-put-number-requires c κs = search needs
-
-end-line-requires : tie.Need-end-line-requires
-end-line-requires c κs = search needs
-
-same-length : tie.Need-same-length
-same-length c = search needs
+abbrev number : tie.After-end-line → tie.After-put-number
+number c = c .before .before .before .before
 
 returns : tie.Need-returns
 unfolding writes
 returns c =
     let at-end-line = c .before .before in
-    let at-put-number = at-end-line .before .before .before .before in
-    let at-put-size-word = at-put-number .before .before .before .before in
+    let at-put-number = number at-end-line in
+    let at-put-size-word = size-word at-put-number in
     at-end-line .end-line .ensures ∙ ap (puts _) (at-put-number .put-number .ensures ∙ ap (puts _) (at-put-size-word .put-size-word .ensures))
 
 pub put-size-spec : {M : Type 1} → statement M
 put-size-spec =
     tie.close
-    (tie.spec put-size-word-requires put-number-requires end-line-requires same-length returns)
+    (tie.spec (λ c κs. search needs) (λ c κs. search needs) (λ c κs. search needs) (λ c. search needs) returns)

@@ -5,38 +5,27 @@ use borrow.Author.Needs.{needs}
 use Rattle.script_answers.proofs.dump.put_counts.Statement.{statement}
 use Rattle.script_answers.proofs.dump.put_counts.Tie as tie
 
-slice-aggregate-put-text : tie.Need-slice-aggregate-put-text
-slice-aggregate-put-text c = search needs
+-- the places that the proof refers to, each from a later one
+abbrev text : tie.After-put-number → tie.After-put-text
+text c = c .before .before .before .before
 
-put-text-requires : tie.Need-put-text-requires
-put-text-requires c κs = search needs
+abbrev number : tie.After-put-number2 → tie.After-put-number
+number c = c .before .before .before .before
 
-put-number-requires : tie.Need-put-number-requires
-put-number-requires c κs = search needs
+abbrev number2 : tie.After-put-number3 → tie.After-put-number2
+number2 c = c .before .before .before .before .before
 
-put-number-requires-2 : tie.Need-put-number-requires-2
-put-number-requires-2 c κs = search needs
-
-cast-put-number : tie.Need-cast-put-number
-cast-put-number c = search needs
-
-put-number-requires-3 : tie.Need-put-number-requires-3
-put-number-requires-3 c κs = search needs
-
-end-line-requires : tie.Need-end-line-requires
-end-line-requires c κs = search needs
-
-same-length : tie.Need-same-length
-same-length c = search needs
+abbrev number3 : tie.After-end-line → tie.After-put-number3
+number3 c = c .before .before .before .before
 
 returns : tie.Need-returns
 unfolding writes
 returns c =
     let at-end-line = c .before .before in
-    let at-put-number3 = at-end-line .before .before .before .before in
-    let at-put-number2 = at-put-number3 .before .before .before .before .before in
-    let at-put-number = at-put-number2 .before .before .before .before in
-    let at-put-text = at-put-number .before .before .before .before in
+    let at-put-number3 = number3 at-end-line in
+    let at-put-number2 = number2 at-put-number3 in
+    let at-put-number = number at-put-number2 in
+    let at-put-text = text at-put-number in
     at-end-line .end-line .ensures
     ∙ ap (puts _) (at-put-number3 .put-number3 .ensures
     ∙ ap (puts _) (at-put-number2 .put-number2 .ensures
@@ -46,12 +35,12 @@ pub put-counts-spec : {M : Type 1} → statement M
 put-counts-spec =
     tie.close
     (tie.spec
-    slice-aggregate-put-text
-    put-text-requires
-    put-number-requires
-    put-number-requires-2
-    cast-put-number
-    put-number-requires-3
-    end-line-requires
-    same-length
+    (λ c. search needs)
+    (λ c κs. search needs)
+    (λ c κs. search needs)
+    (λ c κs. search needs)
+    (λ c. search needs)
+    (λ c κs. search needs)
+    (λ c κs. search needs)
+    (λ c. search needs)
     returns)

@@ -6,35 +6,27 @@ use borrow.Author.Needs.{needs}
 use Rattle.script_answers.proofs.dump.put_entry.Statement.{statement}
 use Rattle.script_answers.proofs.dump.put_entry.Tie as tie
 
-slice-aggregate-put-text : tie.Need-slice-aggregate-put-text
-slice-aggregate-put-text c = search needs
+-- the places that the proof refers to, each from a later one
+abbrev text : tie.After-put-key → tie.After-put-text
+text c = c .before .before .before .before
 
-put-text-requires : tie.Need-put-text-requires
-put-text-requires c κs = search needs
+abbrev key : tie.After-put-number → tie.After-put-key
+key c = c .before .before .before .before
 
-put-key-requires : tie.Need-put-key-requires
-put-key-requires c κs = search needs
+abbrev number : tie.After-put-bytes → tie.After-put-number
+number c = c .before .before .before .before
 
-put-number-requires : tie.Need-put-number-requires
-put-number-requires c κs = search needs
-
-put-bytes-requires : tie.Need-put-bytes-requires
-put-bytes-requires c κs = search needs
-
-end-line-requires : tie.Need-end-line-requires
-end-line-requires c κs = search needs
-
-same-length : tie.Need-same-length
-same-length c = search needs
+abbrev bytes : tie.After-end-line → tie.After-put-bytes
+bytes c = c .before .before .before .before
 
 returns : tie.Need-returns
 unfolding writes
 returns c =
     let at-end-line = c .before .before in
-    let at-put-bytes = at-end-line .before .before .before .before in
-    let at-put-number = at-put-bytes .before .before .before .before in
-    let at-put-key = at-put-number .before .before .before .before in
-    let at-put-text = at-put-key .before .before .before .before in
+    let at-put-bytes = bytes at-end-line in
+    let at-put-number = number at-put-bytes in
+    let at-put-key = key at-put-number in
+    let at-put-text = text at-put-key in
     at-end-line .end-line .ensures
     ∙ ap (puts _) (at-put-bytes .put-bytes .ensures
     ∙ ap (puts _) (at-put-number .put-number .ensures
@@ -44,11 +36,11 @@ pub put-entry-spec : {M : Type 1} → statement M
 put-entry-spec =
     tie.close
     (tie.spec
-    slice-aggregate-put-text
-    put-text-requires
-    put-key-requires
-    put-number-requires
-    put-bytes-requires
-    end-line-requires
-    same-length
+    (λ c. search needs)
+    (λ c κs. search needs)
+    (λ c κs. search needs)
+    (λ c κs. search needs)
+    (λ c κs. search needs)
+    (λ c κs. search needs)
+    (λ c. search needs)
     returns)

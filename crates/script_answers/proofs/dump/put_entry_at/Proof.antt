@@ -1,37 +1,39 @@
 -- `script_answers::dump::put_entry_at` meets its contract. Assumes nothing.
 use mathlib.Core.Path.{_∙_}
-use Rattle.text_output.specs.Writing.{sheet, writes}
+use Rattle.text_output.specs.Writing.{Sheet, sheet, writes}
 use Rattle.script_answers.specs.Dump.{entryTexts}
 use borrow.Author.Needs.{needs}
 use Rattle.script_answers.proofs.dump.put_entry_at.Statement.{statement}
 use Rattle.script_answers.proofs.dump.put_entry_at.Tie as tie
 
-word-at-requires : tie.Need-word-at-requires
-word-at-requires c κs = search needs
+-- the places that the proof refers to, each from a later one
+abbrev start : tie.After-word-at → tie.Start
+start c = c .before .before .before .before .before
 
-time-at-requires : tie.Need-time-at-requires
-time-at-requires c κs = search needs
+abbrev word : tie.After-time-at → tie.After-word-at
+word c = c .before
 
-shown-bytes-requires : tie.Need-shown-bytes-requires
-shown-bytes-requires c κs = search needs
+abbrev time : tie.After-shown-bytes → tie.After-time-at
+time c = c .before
 
-put-entry-requires : tie.Need-put-entry-requires
-put-entry-requires c κs = search needs
+abbrev bytes : tie.After-put-entry → tie.After-shown-bytes
+bytes c = c .before .before
 
-same-length : tie.Need-same-length
-same-length c = search needs
+abbrev put : tie.After-slice-known2 → tie.After-put-entry
+put c = c .before .before
+
+-- the sheet that came in
+abbrev came : tie.After-word-at → Sheet
+came c = let a = start c .args in sheet (a .out .now) (a .at)
 
 returns : tie.Need-returns
 returns c =
-    let at-put-entry = c .before .before in
-    let place = at-put-entry .before .before in
-    let bytes = place in
-    let time = bytes .before in
-    let word = time .before in
-    let a = word .before .before .before .before .before .args in
-    at-put-entry .put-entry .ensures
-    ∙ (λ j. writes (entryTexts (word .word-at .ensures j) (time .time-at .ensures j) (bytes .shown-bytes .ensures j)) (sheet (a .out .now) (a .at)))
+    put c .put-entry .ensures
+    ∙ (λ j. writes (entryTexts (word (time (bytes (put c))) .word-at .ensures j) (time (bytes (put c)) .time-at .ensures j)
+    (bytes (put c) .shown-bytes .ensures j)) (came (word (time (bytes (put c))))))
 
 pub put-entry-at-spec : {M : Type 1} → statement M
 put-entry-at-spec =
-    tie.close (tie.spec word-at-requires time-at-requires shown-bytes-requires put-entry-requires same-length returns)
+    tie.close
+    (tie.spec (λ c κs. search needs) (λ c κs. search needs) (λ c κs. search needs) (λ c κs. search needs) (λ c. search needs)
+    returns)

@@ -16,14 +16,15 @@ Inv-loop out₀ at n records next₀ i₀ out next i =
 abbrev μ-loop : tie.MeasureT-loop
 μ-loop out₀ at n records next₀ i₀ out next i = n - i
 
+-- the places that the proof refers to, each from a later one
+abbrev start : tie.At-loop Inv-loop μ-loop → tie.Start Inv-loop μ-loop
+start c = c .before .before .before
+
+abbrev turn : tie.After-word-at Inv-loop μ-loop → tie.At-loop Inv-loop μ-loop
+turn c = c .before .before .before
+
 loop-holds : tie.Need-loop-holds Inv-loop μ-loop
 loop-holds c = (refl, omega arith, sym (below-none _ _))
-
-word-at-requires : tie.Need-word-at-requires Inv-loop μ-loop
-word-at-requires c κs = tt
-
-put-record-requires : tie.Need-put-record-requires Inv-loop μ-loop
-put-record-requires c κs = tt
 
 add-i : tie.Need-add-i Inv-loop μ-loop
 add-i c = omega arith
@@ -35,14 +36,14 @@ loop-again : tie.Need-loop-again Inv-loop μ-loop
 loop-again c =
     let at-put-record = c .before .before in
     let at-word-at = at-put-record .before in
-    let at-loop = at-word-at .before .before .before in
-    let start = at-loop .before .before .before in
+    let at-loop = turn at-word-at in
+    let s = start at-loop in
     let at = at-loop .loop in (
       at-put-record .put-record .kept .0 ∙ at .inv .0,
       omega arith,
       at-put-record .put-record .ensures
           ∙ ap (λ (w : ℕ). writes (recordLine w) (sheet (at .out) (at .next))) (at-word-at .word-at .ensures)
-          ∙ ap (writes (recordLine (getD (start .args .records .now) (at .i) 0))) (at .inv .2)
+          ∙ ap (writes (recordLine (getD (s .args .records .now) (at .i) 0))) (at .inv .2)
           ∙ sym (below-more _ _ _),
     )
 
@@ -52,8 +53,8 @@ same-length c = c .before .loop .inv .0
 returns : tie.Need-returns Inv-loop μ-loop
 returns c =
     let at-loop = c .before in
-    let start = at-loop .before .before .before in
-    let e : start .args .n ≡ at-loop .loop .i = omega arith in rw e (at-loop .loop .inv .2)
+    let s = start at-loop in
+    let e : s .args .n ≡ at-loop .loop .i = omega arith in rw e (at-loop .loop .inv .2)
 
 pub put-records-spec : {M : Type 1} → statement M
 put-records-spec =
@@ -62,8 +63,8 @@ put-records-spec =
     Inv-loop
     μ-loop
     loop-holds
-    word-at-requires
-    put-record-requires
+    (λ c κs. tt)
+    (λ c κs. tt)
     add-i
     loop-less
     loop-again

@@ -8,21 +8,6 @@ use borrow.Author.Needs.{needs}
 use Rattle.script_answers.proofs.dump.shown_bytes.Statement.{statement}
 use Rattle.script_answers.proofs.dump.shown_bytes.Tie as tie
 
-mul-base : tie.Need-mul-base
-mul-base c = search needs
-
-add-part : tie.Need-add-part
-add-part c = search needs
-
-byte-at-requires : tie.Need-byte-at-requires
-byte-at-requires c κs = search needs
-
-cast-part : tie.Need-cast-part
-cast-part c = search needs
-
-part-requires : tie.Need-part-requires
-part-requires c κs = search needs
-
 returns : tie.Need-returns
 returns c =
     let at-byte-at = c .before in
@@ -31,9 +16,6 @@ returns c =
     let a = start .args in
     rw (lt-ltb _ _ (at-if1 .if1 .taken)) (c .part .ensures ∙ (λ i. take (at-byte-at .byte-at .ensures i) (drop (a .i * stride + 1) (a .fields .now))))
 
-slice-aggregate-result : tie.Need-slice-aggregate-result
-slice-aggregate-result c = search needs
-
 returns-2 : tie.Need-returns-2
 returns-2 c = rw (le-ltb _ _ (c .before .if1 .left))
 
@@ -41,11 +23,11 @@ pub shown-bytes-spec : {M : Type 1} → statement M
 shown-bytes-spec =
     tie.close
     (tie.spec
-    mul-base
-    add-part
-    byte-at-requires
-    cast-part
-    part-requires
+    (λ c. search needs)
+    (λ c. search needs)
+    (λ c κs. search needs)
+    (λ c. search needs)
+    (λ c κs. search needs)
     returns
-    slice-aggregate-result
+    (λ c. search needs)
     returns-2)

@@ -4,9 +4,6 @@ use borrow.Author.Needs.{needs}
 use Rattle.script_answers.proofs.dump.stored.Statement.{statement}
 use Rattle.script_answers.proofs.dump.stored.Tie as tie
 
-is-sound-requires : tie.Need-is-sound-requires
-is-sound-requires c κs = search needs
-
 returns : tie.Need-returns
 returns c = rw (sym (c .before .is-sound .ensures) ∙ c .if1 .taken)
 
@@ -14,4 +11,4 @@ returns-2 : tie.Need-returns-2
 returns-2 c = rw (sym (c .before .is-sound .ensures) ∙ c .if1 .left)
 
 pub stored-spec : {M : Type 1} → statement M
-stored-spec = tie.close (tie.spec is-sound-requires returns returns-2)
+stored-spec = tie.close (tie.spec (λ c κs. search needs) returns returns-2)

@@ -5,21 +5,9 @@ use borrow.Author.Needs.{needs}
 use Rattle.script_lines.proofs.reader.is_known.Statement.{statement}
 use Rattle.script_lines.proofs.reader.is_known.Tie as tie
 
-slice-aggregate-one-of : tie.Need-slice-aggregate-one-of
-slice-aggregate-one-of c = search needs
-
-one-of-requires : tie.Need-one-of-requires
-one-of-requires c κs = search needs
-
 returns : tie.Need-returns
 unfolding known
 returns c = rw (sym (c .before .one-of .ensures) ∙ c .if1 .taken)
-
-slice-aggregate-one-of-2 : tie.Need-slice-aggregate-one-of-2
-slice-aggregate-one-of-2 c = search needs
-
-one-of-requires-2 : tie.Need-one-of-requires-2
-one-of-requires-2 c κs = search needs
 
 returns-2 : tie.Need-returns-2
 unfolding known
@@ -37,10 +25,10 @@ pub is-known-spec : {M : Type 1} → statement M
 is-known-spec =
     tie.close
     (tie.spec
-    slice-aggregate-one-of
-    one-of-requires
+    (λ c. search needs)
+    (λ c κs. search needs)
     returns
-    slice-aggregate-one-of-2
-    one-of-requires-2
+    (λ c. search needs)
+    (λ c κs. search needs)
     returns-2
     returns-3)

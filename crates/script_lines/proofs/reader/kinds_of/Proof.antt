@@ -6,24 +6,6 @@ use borrow.Author.Needs.{needs}
 use Rattle.script_lines.proofs.reader.kinds_of.Statement.{statement}
 use Rattle.script_lines.proofs.reader.kinds_of.Tie as tie
 
-scene-and-requires : tie.Need-scene-and-requires
-scene-and-requires c κs = search needs
-
-scene-and-requires-2 : tie.Need-scene-and-requires-2
-scene-and-requires-2 c κs = search needs
-
-scene-and-requires-3 : tie.Need-scene-and-requires-3
-scene-and-requires-3 c κs = search needs
-
-scene-and-requires-4 : tie.Need-scene-and-requires-4
-scene-and-requires-4 c κs = search needs
-
-scene-and-requires-5 : tie.Need-scene-and-requires-5
-scene-and-requires-5 c κs = search needs
-
-scene-and-requires-6 : tie.Need-scene-and-requires-6
-scene-and-requires-6 c κs = search needs
-
 returns : tie.Need-returns
 unfolding kindsOf
 returns c = rw (c .match .keys1)
@@ -111,12 +93,12 @@ pub kinds-of-spec : {M : Type 1} → statement M
 kinds-of-spec =
     tie.close
     (tie.spec
-    scene-and-requires
-    scene-and-requires-2
-    scene-and-requires-3
-    scene-and-requires-4
-    scene-and-requires-5
-    scene-and-requires-6
+    (λ c κs. search needs)
+    (λ c κs. search needs)
+    (λ c κs. search needs)
+    (λ c κs. search needs)
+    (λ c κs. search needs)
+    (λ c κs. search needs)
     returns
     returns-2
     returns-3

@@ -14,8 +14,9 @@ use borrow.Author.Needs.{needs}
 use Rattle.script_lines.proofs.reader.read_next.Statement.{statement}
 use Rattle.script_lines.proofs.reader.read_next.Tie as tie
 
-next-word-requires : tie.Need-next-word-requires
-next-word-requires c κs = search needs
+-- the places that the proof refers to, each from a later one
+abbrev start : tie.After-next-word → tie.Start
+start c = c .before .before .before
 
 sub-read-word : tie.Need-sub-read-word
 sub-read-word c = word-start _ _ _ (c .next-word .ensures)
@@ -24,25 +25,22 @@ part-read-word-start : tie.Need-part-read-word-start
 part-read-word-start c = word-start _ _ _ (c .next-word .ensures)
 
 part-read-word-end : tie.Need-part-read-word-end
-part-read-word-end c = word-end _ _ _ (c .next-word .ensures) (c .before .before .before .pre)
-
-read-word-requires : tie.Need-read-word-requires
-read-word-requires c κs = search needs
+part-read-word-end c = word-end _ _ _ (c .next-word .ensures) (start c .pre)
 
 same-length : tie.Need-same-length
 same-length c =
     let at-read-word = c .before .before in
     let at-next-word = at-read-word .before .before in
-    let start = at-next-word .before .before .before in
+    let s = start at-next-word in
     let r = at-next-word .next-word .result in
-    same-len-mid (r .from) (r .to - r .from) (start .args .line .now) (at-read-word .read-word .last .0) (at-read-word .read-word .kept .0)
+    same-len-mid (r .from) (r .to - r .from) (s .args .line .now) (at-read-word .read-word .last .0) (at-read-word .read-word .kept .0)
 
 returns : tie.Need-returns
 returns c =
     let at-read-word = c .before .before in
     let at-next-word = at-read-word .before .before in
-    let start = at-next-word .before .before .before in
-    let a = start .args in
+    let s = start at-next-word in
+    let a = s .args in
     let line = a .line .now in
     let w = at-next-word .next-word .result in
     let e = at-next-word .next-word .ensures in
@@ -60,10 +58,10 @@ pub read-next-spec : {M : Type 1} → statement M
 read-next-spec =
     tie.close
     (tie.spec
-    next-word-requires
+    (λ c κs. search needs)
     sub-read-word
     part-read-word-start
     part-read-word-end
-    read-word-requires
+    (λ c κs. search needs)
     same-length
     returns)

@@ -25,12 +25,22 @@ Inv-loop line₀ start letter trace kinds values₀ starts₀ at₀ i₀ line va
 abbrev μ-loop : tie.MeasureT-loop
 μ-loop line₀ start letter trace kinds values₀ starts₀ at₀ i₀ line values starts at i = 10 - i
 
-kinds-of-requires : tie.Need-kinds-of-requires Inv-loop μ-loop
-kinds-of-requires c κs = tt
+-- the places that the proof refers to, each from a later one
+abbrev start : tie.After-kinds-of Inv-loop μ-loop → tie.Start Inv-loop μ-loop
+start c = c .before .before
+
+abbrev turn : tie.After-read-next Inv-loop μ-loop → tie.At-loop Inv-loop μ-loop
+turn c = c .before .before .before .before
+
+abbrev reading : tie.After-slice-known2 Inv-loop μ-loop → tie.After-read-next Inv-loop μ-loop
+reading c = c .before .before
+
+abbrev matched : tie.After-empty Inv-loop μ-loop → tie.After-slice-known2 Inv-loop μ-loop
+matched c = c .before .before .before .before
 
 loop-holds : tie.Need-loop-holds Inv-loop μ-loop
 unfolding positions
-loop-holds c = (refl, c .before .before .pre, refl, refl, omega arith, λ later q. words-start _ _ _ [] [] later _, refl)
+loop-holds c = (refl, start c .pre, refl, refl, omega arith, λ later q. words-start _ _ _ [] [] later _, refl)
 
 array-copy-out-read-next : tie.Need-array-copy-out-read-next Inv-loop μ-loop
 array-copy-out-read-next c = omega arith
@@ -56,23 +66,18 @@ array-write-starts c = omega arith
 enum-known-word-2 : tie.Need-enum-known-word-2 Inv-loop μ-loop
 enum-known-word-2 c = c .match .keys2
 
-empty-requires : tie.Need-empty-requires Inv-loop μ-loop
-empty-requires c κs = tt
-
 same-length : tie.Need-same-length Inv-loop μ-loop
 same-length c =
-    let at-read-next = c .before .before .before .before .before .before in
-    let at-loop = at-read-next .before .before .before .before in
-    at-read-next .read-next .kept .0 ∙ at-loop .loop .inv .0
+    let r = reading (matched c) in
+    r .read-next .kept .0 ∙ turn r .loop .inv .0
 
 returns : tie.Need-returns Inv-loop μ-loop
 returns c =
     let at-word2 = c .before .before in
-    let at-read-next = at-word2 .before .before .before .before in
-    let at-loop = at-read-next .before .before .before .before in
+    let at-read-next = reading (at-word2 .before .before) in
+    let at-loop = turn at-read-next in
     let at-kinds-of = at-loop .before in
-    let start = at-kinds-of .before .before in
-    let a = start .args in
+    let a = start at-kinds-of .args in
     let p = at-loop .loop in
     let kinds = at-kinds-of .kinds-of in
     let next = at-read-next .read-next in
@@ -99,10 +104,9 @@ loop-less c = omega arith
 loop-again : tie.Need-loop-again Inv-loop μ-loop
 loop-again c =
     let at-word = c .before in
-    let at-read-next = at-word .before .before .before .before in
-    let at-loop = at-read-next .before .before .before .before in
+    let at-read-next = reading (at-word .before .before) in
+    let at-loop = turn at-read-next in
     let at-kinds-of = at-loop .before in
-    let start = at-kinds-of .before .before in
     let p = at-loop .loop in
     let at = p .inv in
     let kinds = at-kinds-of .kinds-of in
@@ -118,7 +122,7 @@ loop-again c =
       words-more _ _ _ (p .values) (p .starts) (p .line) (p .at) (p .i) _ _ _ l (next .ensures) h (next .kept .0) (at .5) _
           (at-word .word .given .1) (omega arith) (omega arith),
       at .6
-          ∙ left-more _ (start .args .letter) _ (p .values) (p .starts) (p .line) (p .at) (p .i) [] _ _ l (next .ensures) h (next .kept .0) _
+          ∙ left-more _ (start at-kinds-of .args .letter) _ (p .values) (p .starts) (p .line) (p .at) (p .i) [] _ _ l (next .ensures) h (next .kept .0) _
           (at-word .word .given .1),
     )
 
@@ -129,8 +133,7 @@ returns-2 : tie.Need-returns-2 Inv-loop μ-loop
 returns-2 c =
     let at-loop = c .before in
     let at-kinds-of = at-loop .before in
-    let start = at-kinds-of .before .before in
-    let a = start .args in
+    let a = start at-kinds-of .args in
     let p = at-loop .loop in
     let kinds = at-kinds-of .kinds-of in
     let k = ap length (kinds .ensures) ∙ kinds-length (a .letter) in
@@ -152,7 +155,7 @@ read-words-spec =
     (tie.spec
     Inv-loop
     μ-loop
-    kinds-of-requires
+    (λ c κs. tt)
     loop-holds
     array-copy-out-read-next
     read-next-requires
@@ -162,7 +165,7 @@ read-words-spec =
     mul-starts
     array-write-starts
     enum-known-word-2
-    empty-requires
+    (λ c κs. tt)
     same-length
     returns
     add-i

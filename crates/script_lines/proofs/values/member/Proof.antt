@@ -5,14 +5,8 @@ use borrow.Author.Needs.{needs}
 use Rattle.script_lines.proofs.values.member.Statement.{statement}
 use Rattle.script_lines.proofs.values.member.Tie as tie
 
-byte-requires : tie.Need-byte-requires
-byte-requires c κs = search needs
-
-of-number-requires : tie.Need-of-number-requires
-of-number-requires c κs = search needs
-
 returns : tie.Need-returns
 returns c = c .of-number .ensures ∙ ap membershipOf (c .before .byte .ensures)
 
 pub member-spec : {M : Type 1} → statement M
-member-spec = tie.close (tie.spec byte-requires of-number-requires returns)
+member-spec = tie.close (tie.spec (λ c κs. search needs) (λ c κs. search needs) returns)

@@ -3,30 +3,6 @@ use borrow.Author.Needs.{needs}
 use Rattle.script_lines.proofs.values.scene_key.Statement.{statement}
 use Rattle.script_lines.proofs.values.scene_key.Tie as tie
 
-element-copy-out-byte : tie.Need-element-copy-out-byte
-element-copy-out-byte c = search needs
-
-byte-requires : tie.Need-byte-requires
-byte-requires c κs = search needs
-
-element-copy-out-short : tie.Need-element-copy-out-short
-element-copy-out-short c = search needs
-
-short-requires : tie.Need-short-requires
-short-requires c κs = search needs
-
-element-copy-out-short-2 : tie.Need-element-copy-out-short-2
-element-copy-out-short-2 c = search needs
-
-short-requires-2 : tie.Need-short-requires-2
-short-requires-2 c κs = search needs
-
-element-copy-out-byte-2 : tie.Need-element-copy-out-byte-2
-element-copy-out-byte-2 c = search needs
-
-byte-requires-2 : tie.Need-byte-requires-2
-byte-requires-2 c κs = search needs
-
 returns : tie.Need-returns
 returns c =
     let at-short2 = c .before .before in
@@ -43,12 +19,12 @@ pub scene-key-spec : {M : Type 1} → statement M
 scene-key-spec =
     tie.close
     (tie.spec
-    element-copy-out-byte
-    byte-requires
-    element-copy-out-short
-    short-requires
-    element-copy-out-short-2
-    short-requires-2
-    element-copy-out-byte-2
-    byte-requires-2
+    (λ c. search needs)
+    (λ c κs. search needs)
+    (λ c. search needs)
+    (λ c κs. search needs)
+    (λ c. search needs)
+    (λ c κs. search needs)
+    (λ c. search needs)
+    (λ c κs. search needs)
     returns)

@@ -14,17 +14,23 @@ Inv-loop word i₀ i = allDigits word ≡ allDigits (drop i word)
 abbrev μ-loop : tie.MeasureT-loop
 μ-loop word i₀ i = length word - i
 
+-- the places that the proof refers to, each from a later one
+abbrev turn : tie.After-digit-value Inv-loop μ-loop → tie.At-loop Inv-loop μ-loop
+turn c = c .before .before .before
+
+abbrev test : tie.After-digit-value Inv-loop μ-loop → tie.In-loop Inv-loop μ-loop
+test c = c .before .before
+
 loop-holds : tie.Need-loop-holds Inv-loop μ-loop
 loop-holds c = refl
 
 shared-slice-read-digit-value : tie.Need-shared-slice-read-digit-value Inv-loop μ-loop
 shared-slice-read-digit-value c = omega arith
 
-digit-value-requires : tie.Need-digit-value-requires Inv-loop μ-loop
-digit-value-requires c κs = tt
-
 returns : tie.Need-returns Inv-loop μ-loop
-returns c = sym (c .before .before .before .before .loop .inv ∙ all-digits-bad _ _ (c .before .before .before .loop-test .taken) _ (c .before .digit-value .ensures) (omega arith))
+returns c =
+    let d = c .before in
+    sym (turn d .loop .inv ∙ all-digits-bad _ _ (test d .loop-test .taken) _ (d .digit-value .ensures) (omega arith))
 
 add-i : tie.Need-add-i Inv-loop μ-loop
 add-i c = omega arith
@@ -33,7 +39,9 @@ loop-less : tie.Need-loop-less Inv-loop μ-loop
 loop-less c = omega arith
 
 loop-again : tie.Need-loop-again Inv-loop μ-loop
-loop-again c = c .before .before .before .before .loop .inv ∙ all-digits-next _ _ (c .before .before .before .loop-test .taken) _ (c .before .digit-value .ensures) (omega arith)
+loop-again c =
+    let d = c .before in
+    turn d .loop .inv ∙ all-digits-next _ _ (test d .loop-test .taken) _ (d .digit-value .ensures) (omega arith)
 
 returns-2 : tie.Need-returns-2 Inv-loop μ-loop
 returns-2 c = sym (c .before .loop .inv ∙ all-digits-end _ _ (c .loop-test .left))
@@ -46,7 +54,7 @@ all-digits-spec =
     μ-loop
     loop-holds
     shared-slice-read-digit-value
-    digit-value-requires
+    (λ c κs. tt)
     returns
     add-i
     loop-less

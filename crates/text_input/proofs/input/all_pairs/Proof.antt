@@ -14,6 +14,13 @@ Inv-loop word n i₀ i = (i ≤ n) × (allPairs word ≡ allPairs (drop (2 * i) 
 abbrev μ-loop : tie.MeasureT-loop
 μ-loop word n i₀ i = n - i
 
+-- the places that the proof refers to, each from a later one
+abbrev turn : tie.After-hex-value Inv-loop μ-loop → tie.At-loop Inv-loop μ-loop
+turn c = c .before .before .before
+
+abbrev high : tie.After-hex-value2 Inv-loop μ-loop → tie.After-hex-value Inv-loop μ-loop
+high c = c .before .before .before
+
 loop-holds : tie.Need-loop-holds Inv-loop μ-loop
 loop-holds c = (omega arith, refl)
 
@@ -23,11 +30,10 @@ mul-hex-value c = omega arith
 shared-slice-read-hex-value : tie.Need-shared-slice-read-hex-value Inv-loop μ-loop
 shared-slice-read-hex-value c = omega arith
 
-hex-value-requires : tie.Need-hex-value-requires Inv-loop μ-loop
-hex-value-requires c κs = tt
-
 returns : tie.Need-returns Inv-loop μ-loop
-returns c = sym (c .before .before .before .before .loop .inv .1 ∙ all-pairs-high _ (c .before .before .before .before .loop .i) (omega arith) _ _ (c .before .hex-value .ensures) refl (omega arith))
+returns c =
+    let at = turn (c .before) .loop in
+    sym (at .inv .1 ∙ all-pairs-high _ (at .i) (omega arith) _ _ (c .before .hex-value .ensures) refl (omega arith))
 
 mul-hex-value-2 : tie.Need-mul-hex-value-2 Inv-loop μ-loop
 mul-hex-value-2 c = omega arith
@@ -38,11 +44,11 @@ add-hex-value c = omega arith
 shared-slice-read-hex-value-2 : tie.Need-shared-slice-read-hex-value-2 Inv-loop μ-loop
 shared-slice-read-hex-value-2 c = omega arith
 
-hex-value-requires-2 : tie.Need-hex-value-requires-2 Inv-loop μ-loop
-hex-value-requires-2 c κs = tt
-
 returns-2 : tie.Need-returns-2 Inv-loop μ-loop
-returns-2 c = sym (c .before .before .before .before .before .before .before .loop .inv .1 ∙ all-pairs-low _ (c .before .before .before .before .before .before .before .loop .i) (omega arith) _ _ (c .before .before .before .before .hex-value .ensures) (c .before .hex-value2 .ensures) (omega arith) (omega arith))
+returns-2 c =
+    let h = high (c .before) in
+    let at = turn h .loop in
+    sym (at .inv .1 ∙ all-pairs-low _ (at .i) (omega arith) _ _ (h .hex-value .ensures) (c .before .hex-value2 .ensures) (omega arith) (omega arith))
 
 add-i : tie.Need-add-i Inv-loop μ-loop
 add-i c = omega arith
@@ -51,7 +57,12 @@ loop-less : tie.Need-loop-less Inv-loop μ-loop
 loop-less c = omega arith
 
 loop-again : tie.Need-loop-again Inv-loop μ-loop
-loop-again c = (omega arith, c .before .before .before .before .before .before .before .loop .inv .1 ∙ all-pairs-next _ (c .before .before .before .before .before .before .before .loop .i) (omega arith) _ _ (c .before .before .before .before .hex-value .ensures) (c .before .hex-value2 .ensures) (omega arith) (omega arith))
+loop-again c =
+    let h = high (c .before) in
+    let at = turn h .loop in (
+      omega arith,
+      at .inv .1 ∙ all-pairs-next _ (at .i) (omega arith) _ _ (h .hex-value .ensures) (c .before .hex-value2 .ensures) (omega arith) (omega arith),
+    )
 
 mul-result : tie.Need-mul-result Inv-loop μ-loop
 mul-result c = omega arith
@@ -68,12 +79,12 @@ all-pairs-spec =
     loop-holds
     mul-hex-value
     shared-slice-read-hex-value
-    hex-value-requires
+    (λ c κs. tt)
     returns
     mul-hex-value-2
     add-hex-value
     shared-slice-read-hex-value-2
-    hex-value-requires-2
+    (λ c κs. tt)
     returns-2
     add-i
     loop-less

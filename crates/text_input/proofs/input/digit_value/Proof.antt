@@ -9,9 +9,6 @@ returns : tie.Need-returns
 unfolding digitValue
 returns c = simp (lt-leb _ _ (c .if1 .taken))
 
-add-if2 : tie.Need-add-if2
-add-if2 c = search needs
-
 returns-2 : tie.Need-returns-2
 unfolding digitValue
 returns-2 c = simp (le-leb _ _ (c .before .if1 .left), lt-ltb _ _ (c .if2 .taken))
@@ -21,4 +18,4 @@ unfolding digitValue
 returns-3 c = simp (le-leb _ _ (c .before .if1 .left), le-ltb _ _ (c .if2 .left))
 
 pub digit-value-spec : {M : Type 1} → statement M
-digit-value-spec = tie.close (tie.spec returns add-if2 returns-2 returns-3)
+digit-value-spec = tie.close (tie.spec returns (λ c. search needs) returns-2 returns-3)

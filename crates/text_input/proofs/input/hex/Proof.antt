@@ -6,55 +6,58 @@ use Rattle.text_input.specs.Reading.{orDash}
 use Rattle.text_input.proofs.input.hex.Statement.{statement}
 use Rattle.text_input.proofs.input.hex.Tie as tie
 
+-- the places that the proof refers to, each from a later one
+abbrev some : tie.After-same → tie.Else1
+some c = c .before .before .before
+
+abbrev same : tie.After-all-pairs → tie.After-same
+same c = c .before .before .before
+
+abbrev other : tie.After-all-pairs → tie.Else2
+other c = c .before .before
+
+abbrev all-pairs : tie.After-slice-known2 → tie.After-all-pairs
+all-pairs c = c .before .before .before .before .before
+
+abbrev good : tie.After-slice-known2 → tie.Then3
+good c = c .before .before .before .before
+
 returns : tie.Need-returns
 unfolding orDash
 returns c = rw (eq-eqb _ _ (c .if1 .taken))
 
-slice-aggregate-same : tie.Need-slice-aggregate-same
-slice-aggregate-same c = search needs
-
-same-requires : tie.Need-same-requires
-same-requires c κs = search needs
-
-same-length : tie.Need-same-length
-same-length c = search needs
-
 returns-2 : tie.Need-returns-2
 unfolding orDash
-returns-2 c = rw (ne-eqb _ _ (c .before .before .before .before .if1 .left), sym (c .before .same .ensures) ∙ c .if2 .taken)
-
-all-pairs-requires : tie.Need-all-pairs-requires
-all-pairs-requires c κs = search needs
+returns-2 c = rw (ne-eqb _ _ (some (c .before) .if1 .left), sym (c .before .same .ensures) ∙ c .if2 .taken)
 
 lay-pairs-requires : tie.Need-lay-pairs-requires
 lay-pairs-requires c κs = sym (c .before .before .all-pairs .ensures) ∙ c .before .if3 .taken
 
-same-length-2 : tie.Need-same-length-2
-same-length-2 c = search needs
-
 returns-3 : tie.Need-returns-3
 unfolding orDash
-returns-3 c = rw (ne-eqb _ _ (c .before .before .before .before .before .before .before .before .before .before .before .if1 .left), sym (c .before .before .before .before .before .before .before .before .same .ensures) ∙ c .before .before .before .before .before .before .before .if2 .left, sym (c .before .before .before .before .before .all-pairs .ensures) ∙ c .before .before .before .before .if3 .taken) (c .before .before .lay-pairs .ensures)
-
-same-length-3 : tie.Need-same-length-3
-same-length-3 c = search needs
+returns-3 c =
+    let a = all-pairs c in
+    rw (ne-eqb _ _ (some (same a) .if1 .left), sym (same a .same .ensures) ∙ other a .if2 .left, sym (a .all-pairs .ensures) ∙ good c .if3 .taken)
+    (c .before .before .lay-pairs .ensures)
 
 returns-4 : tie.Need-returns-4
 unfolding orDash
-returns-4 c = rw (ne-eqb _ _ (c .before .before .before .before .before .before .before .if1 .left), sym (c .before .before .before .before .same .ensures) ∙ c .before .before .before .if2 .left, sym (c .before .all-pairs .ensures) ∙ c .if3 .left)
+returns-4 c =
+    let a = c .before in
+    rw (ne-eqb _ _ (some (same a) .if1 .left), sym (same a .same .ensures) ∙ other a .if2 .left, sym (a .all-pairs .ensures) ∙ c .if3 .left)
 
 pub hex-spec : {M : Type 1} → statement M
 hex-spec =
     tie.close
     (tie.spec
     returns
-    slice-aggregate-same
-    same-requires
-    same-length
+    (λ c. search needs)
+    (λ c κs. search needs)
+    (λ c. search needs)
     returns-2
-    all-pairs-requires
+    (λ c κs. search needs)
     lay-pairs-requires
-    same-length-2
+    (λ c. search needs)
     returns-3
-    same-length-3
+    (λ c. search needs)
     returns-4)

@@ -19,14 +19,15 @@ Inv-loop word₀ i₀ word i =
 abbrev μ-loop : tie.MeasureT-loop
 μ-loop word₀ i₀ word i = length word - i
 
+-- the places that the proof refers to, each from a later one
+abbrev turn : tie.After-digit-value Inv-loop μ-loop → tie.At-loop Inv-loop μ-loop
+turn c = c .before .before .before
+
 loop-holds : tie.Need-loop-holds Inv-loop μ-loop
 loop-holds c = (refl, omega arith, refl, refl)
 
 slice-read-digit-value : tie.Need-slice-read-digit-value Inv-loop μ-loop
 slice-read-digit-value c = omega arith
-
-digit-value-requires : tie.Need-digit-value-requires Inv-loop μ-loop
-digit-value-requires c κs = tt
 
 slice-write-word : tie.Need-slice-write-word Inv-loop μ-loop
 slice-write-word c = omega arith
@@ -39,7 +40,7 @@ loop-less c = simp length-set (omega arith)
 
 loop-again : tie.Need-loop-again Inv-loop μ-loop
 loop-again c =
-    let p = c .before .before .before .loop in (
+    let p = turn c .loop in (
       simp length-set (p .inv .0),
       omega arith,
       p .inv .2 ∙ digits-next (p .word) (p .i) (c .before .before .loop-test .taken) _ (c .digit-value .ensures),
@@ -60,7 +61,7 @@ lay-digits-spec =
     μ-loop
     loop-holds
     slice-read-digit-value
-    digit-value-requires
+    (λ c κs. tt)
     slice-write-word
     add-i
     loop-less

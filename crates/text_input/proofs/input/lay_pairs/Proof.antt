@@ -22,6 +22,13 @@ Inv-loop word₀ n i₀ word i =
 abbrev μ-loop : tie.MeasureT-loop
 μ-loop word₀ n i₀ word i = n - i
 
+-- the places that the proof refers to, each from a later one
+abbrev start : tie.After-loop Inv-loop μ-loop → tie.Start Inv-loop μ-loop
+start c = c .before .before .before
+
+abbrev turn : tie.After-hex-value2 Inv-loop μ-loop → tie.At-loop Inv-loop μ-loop
+turn c = c .before .before .before .before .before
+
 loop-holds : tie.Need-loop-holds Inv-loop μ-loop
 loop-holds c = (refl, omega arith, refl, c .before .pre, refl)
 
@@ -30,9 +37,6 @@ mul-hex-value c = omega arith
 
 slice-read-hex-value : tie.Need-slice-read-hex-value Inv-loop μ-loop
 slice-read-hex-value c = omega arith
-
-hex-value-requires : tie.Need-hex-value-requires Inv-loop μ-loop
-hex-value-requires c κs = tt
 
 mul-hex-value-2 : tie.Need-mul-hex-value-2 Inv-loop μ-loop
 mul-hex-value-2 c = omega arith
@@ -43,14 +47,17 @@ add-hex-value c = omega arith
 slice-read-hex-value-2 : tie.Need-slice-read-hex-value-2 Inv-loop μ-loop
 slice-read-hex-value-2 c = omega arith
 
-hex-value-requires-2 : tie.Need-hex-value-requires-2 Inv-loop μ-loop
-hex-value-requires-2 c κs = tt
-
 mul-word : tie.Need-mul-word Inv-loop μ-loop
-mul-word c = let p = c .before .before .before .before .before .loop in let d = pairs-are (p .word) (p .i) (omega arith) _ _ (c .before .before .hex-value .ensures) (c .hex-value2 .ensures) (p .inv .3) in omega arith
+mul-word c =
+    let p = turn c .loop in
+    let d = pairs-are (p .word) (p .i) (omega arith) _ _ (c .before .before .hex-value .ensures) (c .hex-value2 .ensures) (p .inv .3) in
+    omega arith
 
 add-word : tie.Need-add-word Inv-loop μ-loop
-add-word c = let p = c .before .before .before .before .before .loop in let d = pairs-are (p .word) (p .i) (omega arith) _ _ (c .before .before .hex-value .ensures) (c .hex-value2 .ensures) (p .inv .3) in omega arith
+add-word c =
+    let p = turn c .loop in
+    let d = pairs-are (p .word) (p .i) (omega arith) _ _ (c .before .before .hex-value .ensures) (c .hex-value2 .ensures) (p .inv .3) in
+    omega arith
 
 slice-write-word : tie.Need-slice-write-word Inv-loop μ-loop
 slice-write-word c = omega arith
@@ -63,7 +70,7 @@ loop-less c = omega arith
 
 loop-again : tie.Need-loop-again Inv-loop μ-loop
 loop-again c =
-    let p = c .before .before .before .before .before .loop in (
+    let p = turn c .loop in (
       simp length-set (p .inv .0),
       omega arith,
       p .inv .2 ∙ pairs-next (p .word) (p .i) (omega arith) _ _ (c .before .before .hex-value .ensures) (c .hex-value2 .ensures),
@@ -77,7 +84,7 @@ same-length c = c .before .loop .inv .0
 returns : tie.Need-returns Inv-loop μ-loop
 returns c =
     let p = c .before .loop in
-    let n : length (c .before .before .before .args .word .now) / 2 ≡ p .i = omega arith in
+    let n : length (start c .args .word .now) / 2 ≡ p .i = omega arith in
     ap (λ (k : ℕ). turned (Value k) (p .word)) n
     ∙ laid-end _ (p .word) _ (p .i) (omega arith) (p .inv .2 ∙ pairs-end (p .word) (p .i) (omega arith)) (p .inv .4)
 
@@ -90,11 +97,11 @@ lay-pairs-spec =
     loop-holds
     mul-hex-value
     slice-read-hex-value
-    hex-value-requires
+    (λ c κs. tt)
     mul-hex-value-2
     add-hex-value
     slice-read-hex-value-2
-    hex-value-requires-2
+    (λ c κs. tt)
     mul-word
     add-word
     slice-write-word

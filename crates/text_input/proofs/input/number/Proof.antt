@@ -15,6 +15,16 @@ Inv-loop word most i₀ value₀ i value = numberOf most word ≡ numberFrom mos
 abbrev μ-loop : tie.MeasureT-loop
 μ-loop word most i₀ value₀ i value = length word - i
 
+-- the places that the proof refers to, each from a later one
+abbrev turn : tie.After-digit-value Inv-loop μ-loop → tie.At-loop Inv-loop μ-loop
+turn c = c .before .before .before
+
+abbrev test : tie.After-digit-value Inv-loop μ-loop → tie.In-loop Inv-loop μ-loop
+test c = c .before .before
+
+abbrev valued : tie.Else3 Inv-loop μ-loop → tie.After-digit-value Inv-loop μ-loop
+valued c = c .before .before
+
 returns : tie.Need-returns Inv-loop μ-loop
 unfolding numberOf
 returns c = simp (eq-eqb _ _ (c .if1 .taken))
@@ -26,17 +36,18 @@ loop-holds c = simp (ne-eqb _ _ (c .if1 .left))
 shared-slice-read-digit-value : tie.Need-shared-slice-read-digit-value Inv-loop μ-loop
 shared-slice-read-digit-value c = omega arith
 
-digit-value-requires : tie.Need-digit-value-requires Inv-loop μ-loop
-digit-value-requires c κs = tt
-
 cast-digit : tie.Need-cast-digit Inv-loop μ-loop
 cast-digit c = omega (arith, c .digit-value .ok)
 
 returns-2 : tie.Need-returns-2 Inv-loop μ-loop
-returns-2 c = sym (c .before .before .before .before .loop .inv ∙ number-bad _ _ _ _ (c .before .before .before .loop-test .taken) _ (c .before .digit-value .ensures) (c .if2 .taken))
+returns-2 c =
+    let d = c .before in
+    sym (turn d .loop .inv ∙ number-bad _ _ _ _ (test d .loop-test .taken) _ (d .digit-value .ensures) (c .if2 .taken))
 
 returns-3 : tie.Need-returns-3 Inv-loop μ-loop
-returns-3 c = sym (c .before .before .before .before .before .loop .inv ∙ number-large _ _ _ _ (c .before .before .before .before .loop-test .taken) _ (c .before .before .digit-value .ensures) (c .before .if2 .left) (omega arith))
+returns-3 c =
+    let d = c .before .before in
+    sym (turn d .loop .inv ∙ number-large _ _ _ _ (test d .loop-test .taken) _ (d .digit-value .ensures) (c .before .if2 .left) (omega arith))
 
 mul-if4 : tie.Need-mul-if4 Inv-loop μ-loop
 mul-if4 c = omega arith
@@ -45,7 +56,9 @@ sub-if4 : tie.Need-sub-if4 Inv-loop μ-loop
 sub-if4 c = omega arith
 
 returns-4 : tie.Need-returns-4 Inv-loop μ-loop
-returns-4 c = sym (c .before .before .before .before .before .before .loop .inv ∙ number-large _ _ _ _ (c .before .before .before .before .before .loop-test .taken) _ (c .before .before .before .digit-value .ensures) (c .before .before .if2 .left) (omega arith))
+returns-4 c =
+    let d = valued (c .before) in
+    sym (turn d .loop .inv ∙ number-large _ _ _ _ (test d .loop-test .taken) _ (d .digit-value .ensures) (c .before .before .if2 .left) (omega arith))
 
 mul-value : tie.Need-mul-value Inv-loop μ-loop
 mul-value c = omega arith
@@ -60,7 +73,9 @@ loop-less : tie.Need-loop-less Inv-loop μ-loop
 loop-less c = omega arith
 
 loop-again : tie.Need-loop-again Inv-loop μ-loop
-loop-again c = c .before .before .before .before .before .before .loop .inv ∙ number-next _ _ _ _ (c .before .before .before .before .before .loop-test .taken) _ (c .before .before .before .digit-value .ensures) (c .before .before .if2 .left) (omega arith)
+loop-again c =
+    let d = valued (c .before) in
+    turn d .loop .inv ∙ number-next _ _ _ _ (test d .loop-test .taken) _ (d .digit-value .ensures) (c .before .before .if2 .left) (omega arith)
 
 returns-5 : tie.Need-returns-5 Inv-loop μ-loop
 returns-5 c = sym (c .before .loop .inv ∙ number-end _ _ _ _ (c .loop-test .left))
@@ -74,7 +89,7 @@ number-spec =
     returns
     loop-holds
     shared-slice-read-digit-value
-    digit-value-requires
+    (λ c κs. tt)
     cast-digit
     returns-2
     returns-3

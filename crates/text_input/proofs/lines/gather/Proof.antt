@@ -21,6 +21,19 @@ Inv-loop chunk from line₀ held i₀ n₀ line i n =
 abbrev μ-loop : tie.MeasureT-loop
 μ-loop chunk from line₀ held i₀ n₀ line i n = length chunk - i
 
+-- the places that the proof refers to, each from a later one
+abbrev start : tie.At-loop Inv-loop μ-loop → tie.Start Inv-loop μ-loop
+start c = c .before .before .before
+
+abbrev turn : tie.After-shared-slice-known2 Inv-loop μ-loop → tie.At-loop Inv-loop μ-loop
+turn c = c .before .before
+
+abbrev test : tie.After-shared-slice-known2 Inv-loop μ-loop → tie.In-loop Inv-loop μ-loop
+test c = c .before
+
+abbrev other : tie.After-slice-known2 Inv-loop μ-loop → tie.Else1 Inv-loop μ-loop
+other c = c .before .before .before .before
+
 loop-holds : tie.Need-loop-holds Inv-loop μ-loop
 loop-holds c = (refl, refl, refl)
 
@@ -31,29 +44,28 @@ add-i : tie.Need-add-i Inv-loop μ-loop
 add-i c = omega arith
 
 same-length : tie.Need-same-length Inv-loop μ-loop
-same-length c = c .before .before .before .loop .inv .0
+same-length c = turn (c .before) .loop .inv .0
 
 returns : tie.Need-returns Inv-loop μ-loop
 returns c =
-    let at = c .before .before .before .loop in
-    let e = line-end _ _ _ (at .inv .1) (c .before .before .loop-test .taken) (ap not (eq-eqb _ _ (c .if1 .taken))) in
+    let at = turn (c .before) .loop in
+    let a = start (turn (c .before)) .args in
+    let e = line-end _ _ _ (at .inv .1) (test (c .before) .loop-test .taken) (ap not (eq-eqb _ _ (c .if1 .taken))) in
     record {
-      ended = sym (lt-ltb (lineEnd (c .before .before .before .before .before .before .args .chunk .now) (c .before .before .before .before .before .before .args .from)) (length (c .before .before .before .before .before .before .args .chunk .now)) (omega arith));
+      ended = sym (lt-ltb (lineEnd (a .chunk .now) (a .from)) (length (a .chunk .now)) (omega arith));
       next = omega arith;
       bytes = sym (sym (at .inv .2) ∙ line-done _ _ _ (at .inv .1) _ e);
     }
-
-put-requires : tie.Need-put-requires Inv-loop μ-loop
-put-requires c κs = tt
 
 loop-less : tie.Need-loop-less Inv-loop μ-loop
 loop-less c = omega arith
 
 loop-again : tie.Need-loop-again Inv-loop μ-loop
 loop-again c =
-    let at = c .before .before .before .before .before .before .before .loop in
-    let h = c .before .before .before .before .before .before .loop-test .taken in
-    let n = ap not (ne-eqb _ _ (c .before .before .before .before .if1 .left)) in (
+    let o = other c in
+    let at = turn (o .before) .loop in
+    let h = test (o .before) .loop-test .taken in
+    let n = ap not (ne-eqb _ _ (o .if1 .left)) in (
       c .before .before .put .kept .0 ∙ at .inv .0,
       line-on _ _ _ (at .inv .1) h n,
       ap (puts _) (c .before .before .put .ensures) ∙ sym (line-next _ _ _ (at .inv .1) _ h n) ∙ at .inv .2,
@@ -65,9 +77,10 @@ same-length-2 c = c .before .loop .inv .0
 returns-2 : tie.Need-returns-2 Inv-loop μ-loop
 returns-2 c =
     let at = c .before .loop in
+    let a = start (c .before) .args in
     let e = chunk-end _ _ _ (at .inv .1) (c .loop-test .left) in
     record {
-      ended = sym (le-ltb (lineEnd (c .before .before .before .before .args .chunk .now) (c .before .before .before .before .args .from)) (length (c .before .before .before .before .args .chunk .now)) (omega arith));
+      ended = sym (le-ltb (lineEnd (a .chunk .now) (a .from)) (length (a .chunk .now)) (omega arith));
       next = omega arith;
       bytes = sym (sym (at .inv .2) ∙ line-done _ _ _ (at .inv .1) _ e);
     }
@@ -83,7 +96,7 @@ gather-spec =
     add-i
     same-length
     returns
-    put-requires
+    (λ c κs. tt)
     loop-less
     loop-again
     same-length-2

@@ -1,5 +1,4 @@
 -- `text_output::output::put_decimal` meets its contract. Assumes nothing.
-use Prim.Native.Nat.{ℕ}
 use mathlib.Core.Path.{sym, _∙_}
 use native.Mathlib.Omega.{arith}
 use Rattle.text_output.proofs.Writing.{then, puts-one, decimal-one, decimal-more}
@@ -24,111 +23,43 @@ abbrev put-decimal-below : ℕ → In 1 put-decimal-kinds.ps
 put-decimal-below t =
     and 1 put-decimal-kinds.ps (falls 1 put-decimal-kinds.ps _<_ μ-put-decimal t) put-decimal.Pre
 
-put-decimal-cast-put : (t : ℕ) → put-decimal-lts.Need-cast-put (
-  put-reads.Asked,
-  put-reads.Learnt,
-  put-decimal-below t,
-  put-decimal.Post,
-) (put-decimal-at t) put-decimal.Post
-put-decimal-cast-put t c = omega arith
+abbrev claims : ℕ → put-decimal-lts.Claims
+claims t = (put-reads.Asked, put-reads.Learnt, put-decimal-below t, put-decimal.Post)
 
-put-decimal-add-put : (t : ℕ) → put-decimal-lts.Need-add-put (
-  put-reads.Asked,
-  put-reads.Learnt,
-  put-decimal-below t,
-  put-decimal.Post,
-) (put-decimal-at t) put-decimal.Post
-put-decimal-add-put t c = omega arith
+module _ (t : ℕ) where
+  -- the places that the proof refers to, each from a later one
+  abbrev one : put-decimal-lts.After-slice-known2 (claims t) (put-decimal-at t) put-decimal.Post
+      → put-decimal-lts.Then1 (claims t) (put-decimal-at t) put-decimal.Post
+  one c = c .before .before .before .before
 
-put-decimal-put-requires : (t : ℕ) → put-decimal-lts.Need-put-requires (
-  put-reads.Asked,
-  put-reads.Learnt,
-  put-decimal-below t,
-  put-decimal.Post,
-) (put-decimal-at t) put-decimal.Post
-put-decimal-put-requires t c κs = tt
+  abbrev more : put-decimal-lts.After-put-decimal (claims t) (put-decimal-at t) put-decimal.Post
+      → put-decimal-lts.Else1 (claims t) (put-decimal-at t) put-decimal.Post
+  more c = c .before .before
 
-put-decimal-same-length : (t : ℕ) → put-decimal-lts.Need-same-length (
-  put-reads.Asked,
-  put-reads.Learnt,
-  put-decimal-below t,
-  put-decimal.Post,
-) (put-decimal-at t) put-decimal.Post
-put-decimal-same-length t c = c .before .before .put .kept .0
+  abbrev rest : put-decimal-lts.After-put2 (claims t) (put-decimal-at t) put-decimal.Post
+      → put-decimal-lts.After-put-decimal (claims t) (put-decimal-at t) put-decimal.Post
+  rest c = c .before .before .before .before
 
-put-decimal-returns : (t : ℕ) → put-decimal-lts.Need-returns (
-  put-reads.Asked,
-  put-reads.Learnt,
-  put-decimal-below t,
-  put-decimal.Post,
-) (put-decimal-at t) put-decimal.Post
-put-decimal-returns t c = rw (decimal-one _ (c .before .before .before .before .if1 .taken)) (c .before .before .put .ensures ∙ sym (puts-one _ _))
+  put-decimal-returns : put-decimal-lts.Need-returns (claims t) (put-decimal-at t) put-decimal.Post
+  put-decimal-returns c = rw (decimal-one _ (one c .if1 .taken)) (c .before .before .put .ensures ∙ sym (puts-one _ _))
 
-put-decimal-put-decimal-requires : (t : ℕ) → put-decimal-lts.Need-put-decimal-requires (
-  put-reads.Asked,
-  put-reads.Learnt,
-  put-decimal-below t,
-  put-decimal.Post,
-) (put-decimal-at t) put-decimal.Post
-put-decimal-put-decimal-requires t c κs = (omega arith, tt)
-
-put-decimal-cast-put-2 : (t : ℕ) → put-decimal-lts.Need-cast-put-2 (
-  put-reads.Asked,
-  put-reads.Learnt,
-  put-decimal-below t,
-  put-decimal.Post,
-) (put-decimal-at t) put-decimal.Post
-put-decimal-cast-put-2 t c = omega arith
-
-put-decimal-add-put-2 : (t : ℕ) → put-decimal-lts.Need-add-put-2 (
-  put-reads.Asked,
-  put-reads.Learnt,
-  put-decimal-below t,
-  put-decimal.Post,
-) (put-decimal-at t) put-decimal.Post
-put-decimal-add-put-2 t c = omega arith
-
-put-decimal-put-requires-2 : (t : ℕ) → put-decimal-lts.Need-put-requires-2 (
-  put-reads.Asked,
-  put-reads.Learnt,
-  put-decimal-below t,
-  put-decimal.Post,
-) (put-decimal-at t) put-decimal.Post
-put-decimal-put-requires-2 t c κs = tt
-
-put-decimal-same-length-2 : (t : ℕ) → put-decimal-lts.Need-same-length-2 (
-  put-reads.Asked,
-  put-reads.Learnt,
-  put-decimal-below t,
-  put-decimal.Post,
-) (put-decimal-at t) put-decimal.Post
-put-decimal-same-length-2 t c = c .before .before .put2 .kept .0 ∙ c .before .before .before .before .before .before .put-decimal .kept .0
-
-put-decimal-returns-2 : (t : ℕ) → put-decimal-lts.Need-returns-2 (
-  put-reads.Asked,
-  put-reads.Learnt,
-  put-decimal-below t,
-  put-decimal.Post,
-) (put-decimal-at t) put-decimal.Post
-put-decimal-returns-2 t c = rw (decimal-more _ (c .before .before .before .before .before .before .before .before .if1 .left) (omega arith)) (then _ _ _ _ _ (c .before .before .before .before .before .before .put-decimal .ensures) (c .before .before .put2 .ensures ∙ sym (puts-one _ _)))
+  put-decimal-returns-2 : put-decimal-lts.Need-returns-2 (claims t) (put-decimal-at t) put-decimal.Post
+  put-decimal-returns-2 c =
+      let put = c .before .before in
+      rw (decimal-more _ (more (rest put) .if1 .left) (omega arith)) (then _ _ _ _ _ (rest put .put-decimal .ensures) (put .put2 .ensures ∙ sym (puts-one _ _)))
 
 pub +put-decimal-spec : {M : Type 1} → statement M
-+put-decimal-spec = close μ-put-decimal λ t. put-decimal-lts.spec (
-  put-reads.Asked,
-  put-reads.Learnt,
-  put-decimal-below t,
-  put-decimal.Post,
-)
++put-decimal-spec = close μ-put-decimal λ t. put-decimal-lts.spec (claims t)
     (put-decimal-at t)
     put-decimal.Post
-    (put-decimal-cast-put t)
-    (put-decimal-add-put t)
-    (put-decimal-put-requires t)
-    (put-decimal-same-length t)
+    (λ c. omega arith)
+    (λ c. omega arith)
+    (λ c κs. tt)
+    (λ c. c .before .before .put .kept .0)
     (put-decimal-returns t)
-    (put-decimal-put-decimal-requires t)
-    (put-decimal-cast-put-2 t)
-    (put-decimal-add-put-2 t)
-    (put-decimal-put-requires-2 t)
-    (put-decimal-same-length-2 t)
+    (λ c κs. (omega arith, tt))
+    (λ c. omega arith)
+    (λ c. omega arith)
+    (λ c κs. tt)
+    (λ c. c .before .before .put2 .kept .0 ∙ rest t (c .before .before) .put-decimal .kept .0)
     (put-decimal-returns-2 t)

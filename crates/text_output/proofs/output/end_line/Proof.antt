@@ -5,14 +5,8 @@ use borrow.Author.Needs.{needs}
 use Rattle.text_output.proofs.output.end_line.Statement.{statement}
 use Rattle.text_output.proofs.output.end_line.Tie as tie
 
-put-requires : tie.Need-put-requires
-put-requires c κs = search needs
-
-same-length : tie.Need-same-length
-same-length c = search needs
-
 returns : tie.Need-returns
 returns c = c .before .before .put .ensures ∙ sym (puts-one _ _)
 
 pub end-line-spec : {M : Type 1} → statement M
-end-line-spec = tie.close (tie.spec put-requires same-length returns)
+end-line-spec = tie.close (tie.spec (λ c κs. search needs) (λ c. search needs) returns)

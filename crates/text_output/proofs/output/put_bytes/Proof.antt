@@ -5,37 +5,29 @@ use borrow.Author.Needs.{needs}
 use Rattle.text_output.proofs.output.put_bytes.Statement.{statement}
 use Rattle.text_output.proofs.output.put_bytes.Tie as tie
 
-put-requires : tie.Need-put-requires
-put-requires c κs = search needs
+-- the places that the proof refers to, each from a later one
+abbrev then1 : tie.After-slice-known3 → tie.Then1
+then1 c = c .before .before .before .before
 
-put-requires-2 : tie.Need-put-requires-2
-put-requires-2 c κs = search needs
-
-same-length : tie.Need-same-length
-same-length c = search needs
+abbrev else1 : tie.After-slice-known4 → tie.Else1
+else1 c = c .before .before .before .before
 
 returns : tie.Need-returns
 unfolding puts
-returns c = rw (bytes-none _ (c .before .before .before .before .if1 .taken)) (cc)
-
-put-hex-requires : tie.Need-put-hex-requires
-put-hex-requires c κs = search needs
-
-same-length-2 : tie.Need-same-length-2
-same-length-2 c = search needs
+returns c = rw (bytes-none _ (then1 c .if1 .taken)) (cc)
 
 returns-2 : tie.Need-returns-2
 unfolding puts
-returns-2 c = cc (bytes-some _ (c .before .before .before .before .if1 .left))
+returns-2 c = cc (bytes-some _ (else1 c .if1 .left))
 
 pub put-bytes-spec : {M : Type 1} → statement M
 put-bytes-spec =
     tie.close
     (tie.spec
-    put-requires
-    put-requires-2
-    same-length
+    (λ c κs. search needs)
+    (λ c κs. search needs)
+    (λ c. search needs)
     returns
-    put-hex-requires
-    same-length-2
+    (λ c κs. search needs)
+    (λ c. search needs)
     returns-2)

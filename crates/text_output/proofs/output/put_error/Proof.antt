@@ -5,36 +5,32 @@ use borrow.Author.Needs.{needs}
 use Rattle.text_output.proofs.output.put_error.Statement.{statement}
 use Rattle.text_output.proofs.output.put_error.Tie as tie
 
-slice-aggregate-put-text : tie.Need-slice-aggregate-put-text
-slice-aggregate-put-text c = search needs
+-- the places that the proof refers to, each from a later one
+abbrev text : tie.After-put-number → tie.After-put-text
+text c = c .before .before .before .before
 
-put-text-requires : tie.Need-put-text-requires
-put-text-requires c κs = search needs
+abbrev number : tie.After-put-reason → tie.After-put-number
+number c = c .before .before .before .before
 
-put-number-requires : tie.Need-put-number-requires
-put-number-requires c κs = search needs
-
-put-reason-requires : tie.Need-put-reason-requires
-put-reason-requires c κs = search needs
-
-end-line-requires : tie.Need-end-line-requires
-end-line-requires c κs = search needs
-
-same-length : tie.Need-same-length
-same-length c = search needs
+abbrev reason : tie.After-end-line → tie.After-put-reason
+reason c = c .before .before .before .before
 
 returns : tie.Need-returns
 unfolding writes
-returns c = c .before .before .end-line .ensures ∙ ap (puts _) (c .before .before .before .before .before .before .put-reason .ensures ∙ ap (puts _) (c .before .before .before .before .before .before .before .before .before .before .put-number .ensures ∙ ap (puts _) (c .before .before .before .before .before .before .before .before .before .before .before .before .before .before .put-text .ensures)))
+returns c =
+    let end = c .before .before in
+    let r = reason end in
+    let n = number r in
+    end .end-line .ensures ∙ ap (puts _) (r .put-reason .ensures ∙ ap (puts _) (n .put-number .ensures ∙ ap (puts _) (text n .put-text .ensures)))
 
 pub put-error-spec : {M : Type 1} → statement M
 put-error-spec =
     tie.close
     (tie.spec
-    slice-aggregate-put-text
-    put-text-requires
-    put-number-requires
-    put-reason-requires
-    end-line-requires
-    same-length
+    (λ c. search needs)
+    (λ c κs. search needs)
+    (λ c κs. search needs)
+    (λ c κs. search needs)
+    (λ c κs. search needs)
+    (λ c. search needs)
     returns)

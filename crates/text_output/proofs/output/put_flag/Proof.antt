@@ -3,31 +3,26 @@ use borrow.Author.Needs.{needs}
 use Rattle.text_output.proofs.output.put_flag.Statement.{statement}
 use Rattle.text_output.proofs.output.put_flag.Tie as tie
 
-put-number-requires : tie.Need-put-number-requires
-put-number-requires c κs = search needs
+-- the places that the proof refers to, each from a later one
+abbrev then1 : tie.After-slice-known2 → tie.Then1
+then1 c = c .before .before .before .before
 
-same-length : tie.Need-same-length
-same-length c = search needs
+abbrev else1 : tie.After-slice-known3 → tie.Else1
+else1 c = c .before .before .before .before
 
 returns : tie.Need-returns
-returns c = rw (c .before .before .before .before .if1 .taken) (c .before .before .put-number .ensures)
-
-put-number-requires-2 : tie.Need-put-number-requires-2
-put-number-requires-2 c κs = search needs
-
-same-length-2 : tie.Need-same-length-2
-same-length-2 c = search needs
+returns c = rw (then1 c .if1 .taken) (c .before .before .put-number .ensures)
 
 returns-2 : tie.Need-returns-2
-returns-2 c = rw (c .before .before .before .before .if1 .left) (c .before .before .put-number2 .ensures)
+returns-2 c = rw (else1 c .if1 .left) (c .before .before .put-number2 .ensures)
 
 pub put-flag-spec : {M : Type 1} → statement M
 put-flag-spec =
     tie.close
     (tie.spec
-    put-number-requires
-    same-length
+    (λ c κs. search needs)
+    (λ c. search needs)
     returns
-    put-number-requires-2
-    same-length-2
+    (λ c κs. search needs)
+    (λ c. search needs)
     returns-2)

@@ -5,45 +5,31 @@ use borrow.Author.Needs.{needs}
 use Rattle.text_output.proofs.output.put_status.Statement.{statement}
 use Rattle.text_output.proofs.output.put_status.Tie as tie
 
-put-requires : tie.Need-put-requires
-put-requires c κs = search needs
+-- the places that the proof refers to, each from a later one
+abbrev fault : tie.After-slice-known4 → tie.Then1
+fault c = c .before .before .before .before .before .before .before .before
 
-is-fault-requires : tie.Need-is-fault-requires
-is-fault-requires c κs = search needs
-
-put-requires-2 : tie.Need-put-requires-2
-put-requires-2 c κs = search needs
-
-put-decimal-requires : tie.Need-put-decimal-requires
-put-decimal-requires c κs = search needs
-
-same-length : tie.Need-same-length
-same-length c = search needs
+abbrev plain : tie.After-slice-known5 → tie.Else1
+plain c = c .before .before .before .before
 
 returns : tie.Need-returns
 unfolding puts statusText
-returns c = rw (sym (c .before .before .before .before .before .before .before .before .before .is-fault .ensures) ∙ c .before .before .before .before .before .before .before .before .if1 .taken) (cc)
-
-put-hex-byte-requires : tie.Need-put-hex-byte-requires
-put-hex-byte-requires c κs = search needs
-
-same-length-2 : tie.Need-same-length-2
-same-length-2 c = search needs
+returns c = rw (sym (fault c .before .is-fault .ensures) ∙ fault c .if1 .taken) (cc)
 
 returns-2 : tie.Need-returns-2
 unfolding puts statusText
-returns-2 c = rw (sym (c .before .before .before .before .before .is-fault .ensures) ∙ c .before .before .before .before .if1 .left) (cc)
+returns-2 c = rw (sym (plain c .before .is-fault .ensures) ∙ plain c .if1 .left) (cc)
 
 pub put-status-spec : {M : Type 1} → statement M
 put-status-spec =
     tie.close
     (tie.spec
-    put-requires
-    is-fault-requires
-    put-requires-2
-    put-decimal-requires
-    same-length
+    (λ c κs. search needs)
+    (λ c κs. search needs)
+    (λ c κs. search needs)
+    (λ c κs. search needs)
+    (λ c. search needs)
     returns
-    put-hex-byte-requires
-    same-length-2
+    (λ c κs. search needs)
+    (λ c. search needs)
     returns-2)
