@@ -28,16 +28,11 @@ module _ {A : Type 0} (refuse : ℕ → A) (n : ℕ) (o : A) where
   unfolding guarded
   when-passed e = rw (eq-eqb n success e)
 
--- a call that is not refused finds a sound table, and passes its gate
+-- a call that is not refused finds a sound table
 pub passed-sound : (t : Table) (gate : ℕ) → refusalOf t gate ≡ success → sound t ≡ true
 unfolding refusalOf
 passed-sound t gate e =
     (elim (sound t) as (λ b. cond b gate unsound ≡ success → b ≡ true) [ true ↦ λ _. refl | false ↦ λ q. let w : ⊥ = omega arith in absurd w ]) e
-
-pub passed-gate : (t : Table) (gate : ℕ) → refusalOf t gate ≡ success → gate ≡ success
-unfolding refusalOf
-passed-gate t gate e =
-    (elim (sound t) as (λ b. cond b gate unsound ≡ success → gate ≡ success) [ true ↦ λ q. q | false ↦ λ q. let w : ⊥ = omega arith in absurd w ]) e
 
 pub refusal-sound : (t : Table) (gate : ℕ) → sound t ≡ true → gate ≡ refusalOf t gate
 unfolding refusalOf

@@ -1,6 +1,6 @@
 -- `script_answers::dump::put_table` meets its contract. Assumes nothing.
 use Prim.Native.Nat.{ℕ, _≤_, min}
-use mathlib.Core.Path.{_≡_, ap, _∙_, subst⁻¹}
+use mathlib.Core.Path.{_≡_, _∙_, subst⁻¹}
 use lib.ListN.{getD, length}
 use Rattle.words.specs.Constants.{maxScenes}
 use Rattle.state.specs.Table.{Table, tableOf}
