@@ -7,6 +7,7 @@ use native.Mathlib.Omega.{arith}
 use lib.ListN.{length, take}
 use borrow.Author.Tests.{lt-ltb, le-ltb}
 use Rattle.words.specs.Constants.{maxScenes}
+use Rattle.script_lines.specs.Lines.{mostImage}
 use Rattle.text_output.specs.declared.reason.Reason.the-variants.{TooLong}
 use Rattle.text_output.specs.Writing.{Sheet, sheet, writes}
 use Rattle.text_output.specs.Errors.{errorLine}
@@ -16,29 +17,29 @@ use Rattle.script.specs.Running.{counted, Session, session, runLine}
 use Rattle.script.proofs.Lengths.{error-puts, line-puts}
 use Rattle.console.specs.Whole.{longest, heldAnswer, Whole}
 
-module _ (m : Machine) (keys times fields records ids line : List ℕ) (held : ℕ) (out : List ℕ) (at : ℕ) (after : List ℕ) (next : ℕ) where
+module _ (m : Machine) (keys times fields records buffer line : List ℕ) (held : ℕ) (out : List ℕ) (at : ℕ) (after : List ℕ) (next : ℕ) where
   abbrev run-on : Sheet → Session
-  run-on s = runLine (session (counted m) keys times fields records ids (take held line) s)
+  run-on s = runLine (session (counted m) keys times fields records buffer (take held line) s)
 
   abbrev too-long-on : Sheet → Sheet
   too-long-on s = writes (errorLine (counted m .lines) TooLong) s
 
   -- s is the session that the line leaves
-  pub ran-whole : {s : Session} → s ≡ run-on (sheet out at) → sheet after next ≡ s .output → length (s .ids) ≤ maxScenes
+  pub ran-whole : {s : Session} → s ≡ run-on (sheet out at) → sheet after next ≡ s .output → length (s .buffer) ≤ mostImage
       → held < length line → length keys ≤ maxScenes → length records ≤ maxScenes → at + longest ≤ length out
-      → Whole (heldAnswer m keys times fields records ids line held) out at after next
+      → Whole (heldAnswer m keys times fields records buffer line held) out at after next
   ran-whole q e i l k r o =
-      let few = subst (λ (s : Session). length (s .ids) ≤ maxScenes) q i in
-      let p = line-puts (counted m) keys times fields records ids (take held line) maxScenes (sheet out at) few in
+      let few = subst (λ (s : Session). length (s .buffer) ≤ mostImage) q i in
+      let p = line-puts (counted m) keys times fields records buffer (take held line) mostImage longest (omega (arith, k, r)) (omega arith) (sheet out at) few in
       record {
         text = p .text;
-        short = omega (arith, p .short, k, r);
+        short = p .short;
         says = λ s. ap (λ (b : Bool). cond b (run-on s .output) (too-long-on s)) (lt-ltb held (length line) l) ∙ p .put s;
-        stands = e ∙ ap (λ (s : Session). s .output) q ∙ p .put (sheet out at) ∙ puts-whole (p .text) out at (omega (arith, p .short, k, r, o));
+        stands = e ∙ ap (λ (s : Session). s .output) q ∙ p .put (sheet out at) ∙ puts-whole (p .text) out at (omega (arith, p .short, o));
       }
 
   pub too-long-whole : length line ≤ held → at + longest ≤ length out → sheet after next ≡ too-long-on (sheet out at)
-      → Whole (heldAnswer m keys times fields records ids line held) out at after next
+      → Whole (heldAnswer m keys times fields records buffer line held) out at after next
   too-long-whole l o e =
       let p = error-puts (counted m .lines) TooLong in
       record {

@@ -21,8 +21,8 @@ mostHeld = 0x10000
 
 -- what the line is answered whose first bytes the buffer holds, on an output: one that fills the buffer is too long
 abbrev pub heldAnswer : Machine → List ℕ → List ℕ → List ℕ → List ℕ → List ℕ → List ℕ → ℕ → Sheet → Sheet
-heldAnswer m keys times fields records ids line held s =
-    cond (ltb held (length line)) (runLine (session (counted m) keys times fields records ids (take held line) s) .output)
+heldAnswer m keys times fields records buffer line held s =
+    cond (ltb held (length line)) (runLine (session (counted m) keys times fields records buffer (take held line) s) .output)
     (writes (errorLine (counted m .lines) TooLong) s)
 
 -- an answer is one text, on whatever output; and it stands, with every byte, behind what the buffer held

@@ -6,10 +6,11 @@ use script::Ran;
 ghost use Prim.Native.Nat.{_+_, _≤_};
 ghost use lib.ListN.{length};
 ghost use Rattle.words.specs.Constants.{maxScenes};
+ghost use Rattle.script_lines.specs.Lines.{mostImage};
 ghost use Rattle.console.specs.Whole.{longest, mostHeld, heldAnswer, Whole};
 
-// A line has fewer bytes than this: 128 field bytes take 256 digits, and longer ones are to be refused by the table.
-const LINE: usize = 0x4_0000;
+// A line has fewer bytes than this: the longest image takes 350,224 digits, and longer ones are to be refused by the table.
+const LINE: usize = 0x6_0000;
 
 const CHUNK: usize = 0x1_0000;
 
@@ -54,7 +55,7 @@ fn run_held(
     times: &mut [u32],
     fields: &mut [u8],
     records: &mut [u64],
-    ids: &mut [u8],
+    buffer: &mut [u8],
     line: &mut [u8],
     held: usize,
     out: &mut [u8],
@@ -62,11 +63,11 @@ fn run_held(
 ) -> Ran
     requires { ⌜ length (now keys) ≤ maxScenes ⌝ }
     requires { ⌜ length (now records) ≤ maxScenes ⌝ }
-    requires { ⌜ length (now ids) ≤ maxScenes ⌝ }
+    requires { ⌜ length (now buffer) ≤ mostImage ⌝ }
     requires { ⌜ at + longest ≤ length (now out) ⌝ }
     ensures { λ r.
         let answer = heldAnswer machine (now (keys .entry)) (now (times .entry)) (now (fields .entry)) (now (records .entry))
-        (now (ids .entry)) (now (line .entry)) held in
+        (now (buffer .entry)) (now (line .entry)) held in
         ⌜ Whole answer (now (out .entry)) at (now (out .exit)) (r .at) ⌝ }
 {
     if held < line.len() {
@@ -76,7 +77,7 @@ fn run_held(
             times,
             fields,
             records,
-            ids,
+            buffer,
             &mut line[..held],
             out,
             at,
@@ -92,7 +93,7 @@ fn step(
     times: &mut [u32],
     fields: &mut [u8],
     records: &mut [u64],
-    ids: &mut [u8],
+    buffer: &mut [u8],
     line: &mut [u8],
     held: usize,
     out: &mut [u8],
@@ -100,7 +101,7 @@ fn step(
 ) -> Stepped
     requires { ⌜ length (now keys) ≤ maxScenes ⌝ }
     requires { ⌜ length (now records) ≤ maxScenes ⌝ }
-    requires { ⌜ length (now ids) ≤ maxScenes ⌝ }
+    requires { ⌜ length (now buffer) ≤ mostImage ⌝ }
     requires { ⌜ at ≤ mostHeld ⌝ }
     requires { ⌜ mostHeld + longest ≤ length (now out) ⌝ }
     ensures { λ r. ⌜ r .at ≤ mostHeld ⌝ }
@@ -111,7 +112,7 @@ fn step(
         times,
         fields,
         records,
-        ids,
+        buffer,
         line,
         held,
         out,
@@ -140,7 +141,7 @@ fn feed(
     times: &mut [u32],
     fields: &mut [u8],
     records: &mut [u64],
-    ids: &mut [u8],
+    buffer: &mut [u8],
     line: &mut [u8],
     before: usize,
     chunk: &[u8],
@@ -148,7 +149,7 @@ fn feed(
 ) -> Fed
     requires { ⌜ length (now keys) ≤ maxScenes ⌝ }
     requires { ⌜ length (now records) ≤ maxScenes ⌝ }
-    requires { ⌜ length (now ids) ≤ maxScenes ⌝ }
+    requires { ⌜ length (now buffer) ≤ mostImage ⌝ }
     requires { ⌜ mostHeld + longest ≤ length (now out) ⌝ }
 {
     let mut held = before;
@@ -160,7 +161,7 @@ fn feed(
         from = got.next;
         held = got.held;
         if got.ended {
-            let done = step(m, keys, times, fields, records, ids, line, held, out, at);
+            let done = step(m, keys, times, fields, records, buffer, line, held, out, at);
             m = done.machine;
             at = done.at;
             takes = done.open;
@@ -217,14 +218,14 @@ fn run(
     times: &mut [u32],
     fields: &mut [u8],
     records: &mut [u64],
-    ids: &mut [u8],
+    buffer: &mut [u8],
     line: &mut [u8],
     chunk: &mut [u8],
     out: &mut [u8; OUT],
 )
     requires { ⌜ length (now keys) ≤ maxScenes ⌝ }
     requires { ⌜ length (now records) ≤ maxScenes ⌝ }
-    requires { ⌜ length (now ids) ≤ maxScenes ⌝ }
+    requires { ⌜ length (now buffer) ≤ mostImage ⌝ }
 {
     let room: &mut [u8] = out;
     let mut m = machine;
@@ -237,7 +238,18 @@ fn run(
         let got = read_part(chunk, held);
         let n = got.n;
         let part = &chunk[..n];
-        let fed = feed(m, keys, times, fields, records, ids, line, held, part, room);
+        let fed = feed(
+            m,
+            keys,
+            times,
+            fields,
+            records,
+            buffer,
+            line,
+            held,
+            part,
+            room,
+        );
         m = fed.machine;
         held = fed.held;
         more = fed.open & !got.last;
@@ -256,11 +268,11 @@ fn buffered(
     times: &mut [u32],
     fields: &mut [u8],
     records: &mut [u64],
-    ids: &mut [u8],
+    buffer: &mut [u8],
 )
     requires { ⌜ length (now keys) ≤ maxScenes ⌝ }
     requires { ⌜ length (now records) ≤ maxScenes ⌝ }
-    requires { ⌜ length (now ids) ≤ maxScenes ⌝ }
+    requires { ⌜ length (now buffer) ≤ mostImage ⌝ }
 {
     let mut line = [0u8; LINE];
     let mut chunk = [0u8; CHUNK];
@@ -271,7 +283,7 @@ fn buffered(
         times,
         fields,
         records,
-        ids,
+        buffer,
         &mut line,
         &mut chunk,
         &mut out,
@@ -285,14 +297,14 @@ pub fn bench() {
     let mut times = [0u32; 256];
     let mut fields = [0u8; 33_024];
     let mut records = [0u64; 256];
-    let mut ids = [0u8; 256];
+    let mut buffer = [0u8; 256];
     buffered(
         Machine::new(false),
         &mut keys,
         &mut times,
         &mut fields,
         &mut records,
-        &mut ids,
+        &mut buffer,
     );
 }
 
@@ -302,13 +314,13 @@ pub fn trace() {
     let mut times = [0u32; 1024];
     let mut fields = [0u8; 132_096];
     let mut records = [0u64; 1024];
-    let mut ids = [0u8; 1024];
+    let mut buffer = [0u8; 175_112];
     buffered(
         Machine::new(true),
         &mut keys,
         &mut times,
         &mut fields,
         &mut records,
-        &mut ids,
+        &mut buffer,
     );
 }

@@ -1,6 +1,9 @@
 // The calls of the scene table for hosts in C or Rust. Each is one call of the table; numbers stand for enums, and no reference
 // comes back. A lent slice is a pointer and a count of elements.
 use commands::Applied;
+use image_load::load_image;
+use image_save::ImageSaved;
+use image_save::save_image;
 use reads::InfoRead;
 use reads::ListRead;
 use reads::SceneRead;
@@ -21,6 +24,8 @@ ghost use Rattle.commands.specs.Commands.{addScene, storeScene, removeScene, re
 ghost use Rattle.copies.specs.Copy.{copyScene};
 ghost use Rattle.reads.specs.Reads.{viewScene, recallLookup, listedOf, getSceneMembership, readFabricSceneInfo};
 ghost use Rattle.lifecycle.specs.Lifecycle.{scenableAttributeChanged, removeForFabric, factoryReset, startup, failSafe};
+ghost use Rattle.image_save.specs.Saving.{savedOf, saveImage};
+ghost use Rattle.image_load.specs.Loading.{loadImage};
 ghost use Rattle.requests.specs.Requests.{membershipOf};
 ghost use Rattle.host.specs.Numbers.{interfaceVersion, appliedOf, transitionOf, truthOf};
 ghost use Rattle.host.specs.Fields.{fieldPlace};
@@ -36,7 +41,7 @@ pub struct FieldBytes {
 pub struct Interface;
 
 impl Interface {
-    pub const VERSION: u32 = 2;
+    pub const VERSION: u32 = 3;
 }
 
 // Whether the host applied a recalled scene: 1 is yes, any other number is no.
@@ -448,6 +453,41 @@ pub extern "C" fn scenes_factory_reset(
         ⌜ resultOf (r .status) (r .save) after ≡ factoryReset before ⌝ }
 {
     ScenesHandler { state }.factory_reset(keys, times, fields, records)
+}
+
+// Writes the table's image into the front of a buffer.
+#[no_mangle]
+pub extern "C" fn scenes_save_image(
+    state: ScenesState,
+    keys: &[u64],
+    times: &[u32],
+    fields: &[u8],
+    records: &[u64],
+    buffer: &mut [u8],
+) -> ImageSaved
+    ensures { λ r.
+        let table = tableOf state (now (keys .entry)) (now (times .entry)) (now (fields .entry)) (now (records .entry)) in
+        ⌜ savedOf r (now (buffer .exit)) ≡ saveImage (now (buffer .entry)) table ⌝ }
+{
+    save_image(state, keys, times, fields, records, buffer)
+}
+
+// Replaces the table's entries and records by those of an image.
+#[no_mangle]
+pub extern "C" fn scenes_load_image(
+    state: ScenesState,
+    keys: &mut [u64],
+    times: &mut [u32],
+    fields: &mut [u8],
+    records: &mut [u64],
+    image: &[u8],
+) -> Outcome
+    ensures { λ r.
+        let before = tableOf state (now (keys .entry)) (now (times .entry)) (now (fields .entry)) (now (records .entry)) in
+        let after = tableOf (r .state) (now (keys .exit)) (now (times .exit)) (now (fields .exit)) (now (records .exit)) in
+        ⌜ resultOf (r .status) (r .save) after ≡ loadImage (now (image .entry)) before ⌝ }
+{
+    load_image(state, keys, times, fields, records, image)
 }
 
 // A startup without a saved table.

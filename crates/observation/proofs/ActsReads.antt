@@ -8,7 +8,7 @@ use lib.Dec.{eqb, ltb}
 use lib.ListN.{length, getD, drop}
 use lib.Seq.{take-append-seam}
 use borrow.Author.Tests.{lt-ltb}
-use Rattle.words.specs.Constants.{success, listTooLong, applyFailed, maxShown}
+use Rattle.words.specs.Constants.{success, bufferTooShort, applyFailed, maxShown}
 use Rattle.words.specs.Words.{wordOf, validRecord, sceneOf, within, fabricKeys, endpointKeys, groupKeys}
 use Rattle.words.specs.Below.{positions}
 use Rattle.words.specs.declared.Found.{Found}
@@ -105,12 +105,12 @@ module _ (t : Table) where
 
   lists : sound t ≡ true → (l : List ℕ) (n : ℕ) (buffer : List ℕ)
       → Acts (ofList (listIds l n buffer t) t)
-      (cond (ltb (length buffer) (length l)) (refuse listTooLong, viewOf t) (record { status = success; save = false; values = n ∷ []; ids = l }, viewOf t))
+      (cond (ltb (length buffer) (length l)) (refuse bufferTooShort, viewOf t) (record { status = success; save = false; values = n ∷ []; ids = l }, viewOf t))
   unfolding listIds laid
   lists sd l n buffer =
       elim (ltb (length buffer) (length l)) as (λ b. Acts
-      (ofList (cond b (unlisted buffer t listTooLong) (listedOf (record { status = success; remaining = n; len = length l; state = t .state }) (l ++ drop (length l) buffer))) t)
-      (cond b (refuse listTooLong, viewOf t) (record { status = success; save = false; values = n ∷ []; ids = l }, viewOf t))) [
+      (ofList (cond b (unlisted buffer t bufferTooShort) (listedOf (record { status = success; remaining = n; len = length l; state = t .state }) (l ++ drop (length l) buffer))) t)
+      (cond b (refuse bufferTooShort, viewOf t) (record { status = success; save = false; values = n ∷ []; ids = l }, viewOf t))) [
         | true ↦ record { seen = refl; stays = sd }
         | false ↦ record { seen = ap (λ (k : List ℕ). (record { status = success; save = false; values = n ∷ []; ids = k }, viewOf t)) (take-append-seam l (drop (length l) buffer)); stays = sd }
       ]
@@ -155,7 +155,7 @@ module _ (f e : ℕ) (t : Table) (sd : sound t ≡ true) (hf : f < 2 ^ 8) (he : 
 
   pub membership-acts : (g : ℕ) (m : Membership) (buffer : List ℕ) → gateOf f e (membership g m buffer) ≡ success
       → Acts (step (command f e (membership g m buffer)) t)
-      (cond (ltb (length buffer) (length (idsIn f e g (viewOf t)))) (refuse listTooLong, viewOf t)
+      (cond (ltb (length buffer) (length (idsIn f e g (viewOf t)))) (refuse bufferTooShort, viewOf t)
       (record { status = success; save = false; values = min (roomIn f (viewOf t)) maxShown ∷ []; ids = idsIn f e g (viewOf t) }, viewOf t))
   unfolding step does getSceneMembership
   membership-acts g m buffer p =

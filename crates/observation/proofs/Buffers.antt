@@ -7,7 +7,7 @@ use mathlib.Core.List.{List, [], _∷_}
 use lib.Dec.{eqb, ltb}
 use lib.ListN.{length}
 use borrow.Author.Tests.{eqb-true, eqb-false}
-use Rattle.words.specs.Constants.{success, listTooLong, maxShown}
+use Rattle.words.specs.Constants.{success, bufferTooShort, maxShown}
 use Rattle.requests.specs.declared.Membership.{Membership}
 use Rattle.state.specs.Table.{Table}
 use Rattle.state.specs.Sound.{sound}
@@ -20,7 +20,7 @@ module _ (t : Table) (sd : sound t ≡ true) (f e g : ℕ) (m : Membership) (hf 
   -- what membership answers past its gate, of the buffer's length
   abbrev lists : ℕ → Seen
   lists n =
-      cond (ltb n (length (idsIn f e g (viewOf t)))) (refuse listTooLong, viewOf t)
+      cond (ltb n (length (idsIn f e g (viewOf t)))) (refuse bufferTooShort, viewOf t)
       (record { status = success; save = false; values = min (roomIn f (viewOf t)) maxShown ∷ []; ids = idsIn f e g (viewOf t) }, viewOf t)
 
   pub buffer-length : (b c : List ℕ) → CommandInRange (membership g m b) → CommandInRange (membership g m c) → length b ≡ length c

@@ -12,7 +12,7 @@ use Rattle.state.specs.Answer.{refused}
 use Rattle.commands.specs.Commands.{addScene, storeScene, removeScene, removeAllScenes, recallScene}
 use Rattle.copies.specs.Copy.{copyScene}
 use Rattle.reads.specs.Reads.{unread, viewScene, recallLookup, unlisted, getSceneMembership, noRow, readFabricSceneInfo}
-use Rattle.observation.specs.Calls.{Command, add, view, remove, removeAll, store, recall, copy, membership, info, Call, command, notice, removal, reset, start, failSafeEvent, step, does, next, withState, ofResult, ofView, ofRecall, ofList, ofInfo, sceneKey, CommandInRange, InRange}
+use Rattle.observation.specs.Calls.{Command, add, view, remove, removeAll, store, recall, copy, membership, info, Call, command, notice, removal, reset, start, failSafeEvent, load, step, does, next, withState, ofResult, ofView, ofRecall, ofList, ofInfo, sceneKey, CommandInRange, InRange}
 use Rattle.observation.proofs.Changes.{viewOf}
 use Rattle.observation.proofs.Effects.{gateOf, refuse}
 use Rattle.observation.proofs.Laws.{CommandLaws, EventLaws, Laws}
@@ -21,6 +21,7 @@ use Rattle.observation.proofs.ActsCommands as commands
 use Rattle.observation.proofs.ActsReads as reads
 use Rattle.observation.proofs.ActsCopy as copies
 use Rattle.observation.proofs.ActsLifecycle as lifecycle
+use Rattle.observation.proofs.ActsLoad as loads
 
 module _ (f e : ℕ) (t : Table) (sd : sound t ≡ true) where
   turned : (c : Command) → (gateOf f e c ≡ success → ⊥) → Acts (step (command f e c) t) (refuse (gateOf f e c), viewOf t)
@@ -73,6 +74,7 @@ module _ (f e : ℕ) (t : Table) (sd : sound t ≡ true) (hf : f < 2 ^ 8) (he : 
 
 module _ (t : Table) (sd : sound t ≡ true) where
   event-laws : EventLaws t (viewOf t)
+  unfolding viewOf
   event-laws = record {
     notice-acts = λ e w. lifecycle.notice-acts t sd e .seen;
     removal-refused = lifecycle.removal-refused t sd .seen;
@@ -80,6 +82,7 @@ module _ (t : Table) (sd : sound t ≡ true) where
     reset-acts = lifecycle.reset-acts t sd .seen;
     start-acts = lifecycle.start-acts t sd .seen;
     failSafe-acts = lifecycle.failSafe-acts t sd .seen;
+    load-acts = λ image bytes. loads.load-acts t sd image bytes .seen;
   }
 
   removal-sound : (f : ℕ) → sound (next (removal f) t) ≡ true
@@ -93,6 +96,7 @@ step-sound (removal f) t w sd = removal-sound t sd f
 step-sound reset t w sd = lifecycle.reset-acts t sd .stays
 step-sound start t w sd = lifecycle.start-acts t sd .stays
 step-sound failSafeEvent t w sd = lifecycle.failSafe-acts t sd .stays
+step-sound (load image) t w sd = loads.load-acts t sd image w .stays
 
 pub laws : Laws
 laws = record {

@@ -6,7 +6,7 @@ use mathlib.Core.List.{List, [], _∷_, map}
 use mathlib.Core.Option.{Option, none, some}
 use lib.Dec.{eqb}
 use lib.ListN.{length}
-use Rattle.words.specs.Constants.{success, insufficientSpace, notFound, applyFailed, maxFields, maxShown}
+use Rattle.words.specs.Constants.{success, insufficientSpace, notFound, applyFailed, badImage, clashingImage, maxFields, maxShown}
 use Rattle.words.specs.Words.{wordOf, groupOf, sceneOf, keyOfRecord, isValid, endpointKeys, groupKeys}
 use Rattle.slots.specs.Slots.{SceneEntry}
 use Rattle.records.specs.declared.Scope.{Scope}
@@ -17,12 +17,14 @@ use Rattle.commands.specs.declared.Applied.the-variants.{Yes, Failed}
 use Rattle.reads.specs.declared.Transition.{Transition}
 use Rattle.state.specs.Table.{Table}
 use Rattle.reads.specs.Reads.{effectiveTime}
+use Rattle.image_reader.specs.Image.{Image}
+use Rattle.image_gate.specs.Verdict.{clashes}
 use Rattle.observation.specs.Lists.{bit, count, find, keep}
 use Rattle.observation.specs.Calls.{Command, add, view, remove, removeAll, store, recall, copy, membership, info, Call, Answer, answer, next, sceneKey, groupKey, copyRequest}
 use Rattle.observation.specs.Equivalence.{keyIs}
 use Rattle.observation.proofs.Lists.{found}
 use Rattle.observation.proofs.Lookups.{holds}
-use Rattle.observation.proofs.Changes.{View, viewOf, roomIn, currentIn, invalidated, writtenAll}
+use Rattle.observation.proofs.Changes.{View, viewOf, roomIn, currentIn, stepped, invalidated, writtenAll}
 
 -- what a call answers and what it leaves to be seen
 abbrev pub Seen : Type 0
@@ -109,3 +111,15 @@ abbrev pub infoOut : ℕ → ℕ → View → Answer
 infoOut f e v =
     let n : ℕ = count (holds (endpointKeys f e)) (v .entries) in
     cond (eqb n 0 && not (found (currentIn f v))) (shown []) (shown (row n (min (roomIn f v) maxShown) f (currentIn f v)))
+
+-- ---- an image
+
+-- by whether it clashes
+abbrev pub loadedBy : Bool → Image → View → Seen
+loadedBy true i v = (refuse clashingImage, v)
+loadedBy false i v = (done false, record { size = v .size; dataver = stepped (v .dataver); entries = i .entries; records = i .records })
+
+-- what a load makes of what the bytes are read as
+abbrev pub loaded : Option Image → View → Seen
+loaded none v = (refuse badImage, v)
+loaded (some i) v = loadedBy (clashes i) i v

@@ -6,7 +6,7 @@ use mathlib.Core.Bool.{Bool, true, false, cond, not, _&&_, _||_}
 use mathlib.Core.List.{List, [], _∷_, _++_, map}
 use lib.Dec.{eqb, ltb}
 use lib.ListN.{length}
-use Rattle.words.specs.Constants.{success, insufficientSpace, notFound, noFabric, listTooLong, maxShown, endOfContainer}
+use Rattle.words.specs.Constants.{success, insufficientSpace, notFound, noFabric, bufferTooShort, maxShown, endOfContainer}
 use Rattle.words.specs.Words.{wordOf, groupKeys}
 use Rattle.records.specs.declared.Scope.the-variants.{Scene, Group, Endpoint}
 use Rattle.requests.specs.declared.Membership.{Membership}
@@ -14,13 +14,14 @@ use Rattle.commands.specs.declared.Applied.{Applied}
 use Rattle.reads.specs.declared.Transition.{Transition}
 use Rattle.state.specs.Table.{Table}
 use Rattle.state.specs.Sound.{sound}
+use Rattle.image_reader.specs.Image.{imageIn}
 use Rattle.observation.specs.Lists.{find, keep}
-use Rattle.observation.specs.Calls.{Command, add, view, remove, removeAll, store, recall, copy, membership, info, Call, command, notice, removal, reset, start, failSafeEvent, next, sceneKey, groupKey, CommandInRange, InRange}
+use Rattle.observation.specs.Calls.{Command, add, view, remove, removeAll, store, recall, copy, membership, info, Call, command, notice, removal, reset, start, failSafeEvent, load, next, sceneKey, groupKey, Bytes, CommandInRange, InRange}
 use Rattle.observation.specs.Equivalence.{keyIs, mine, ofFabric}
 use Rattle.observation.proofs.Lists.{has, takeOut}
 use Rattle.observation.proofs.Lookups.{holds, entryOf}
 use Rattle.observation.proofs.Changes.{View, viewOf, roomIn, placeFor, stepped, entriesSet, written, invalidated, remembered}
-use Rattle.observation.proofs.Effects.{sees, refuse, done, gateOf, timeOf, viewed, applied, recalled, sources, target, scopeOf, copyOut, idsIn, infoOut}
+use Rattle.observation.proofs.Effects.{sees, refuse, done, gateOf, timeOf, viewed, applied, recalled, sources, target, scopeOf, copyOut, idsIn, infoOut, loaded}
 
 -- the laws of one fabric's commands on one endpoint, of one sound table whose view is v
 pub record CommandLaws (f e : ℕ) (t : Table) (v : View) : Type 0 where
@@ -63,7 +64,7 @@ pub record CommandLaws (f e : ℕ) (t : Table) (v : View) : Type 0 where
       (copyOut f (scopeOf f e mode h r) (map (target f e mode h r) (sources f e mode g s v)) v)
   pub membership-acts : (g : ℕ) (m : Membership) (buffer : List ℕ) → CommandInRange (membership g m buffer) → gateOf f e (membership g m buffer) ≡ 0
       → sees (command f e (membership g m buffer)) t
-      ≡ cond (ltb (length buffer) (length (idsIn f e g v))) (refuse listTooLong, v)
+      ≡ cond (ltb (length buffer) (length (idsIn f e g v))) (refuse bufferTooShort, v)
       (record { status = success; save = false; values = min (roomIn f v) maxShown ∷ []; ids = idsIn f e g v }, v)
   pub info-acts : (single : Bool) → gateOf f e (info single) ≡ 0 → sees (command f e (info single)) t ≡ (infoOut f e v, v)
 
@@ -85,6 +86,7 @@ pub record EventLaws (t : Table) (v : View) : Type 0 where
   pub reset-acts : sees reset t ≡ (done false, record { size = v .size; dataver = stepped (v .dataver); entries = []; records = [] })
   pub start-acts : sees start t ≡ (done false, record { size = v .size; dataver = v .dataver; entries = []; records = [] })
   pub failSafe-acts : sees failSafeEvent t ≡ (done false, v)
+  pub load-acts : (image : List ℕ) → Bytes image → sees (load image) t ≡ loaded (imageIn (v .size) image) v
 
 pub record Laws : Type 0 where
   pub commands : (f e : ℕ) (t : Table) → sound t ≡ true → f < 2 ^ 8 → e < 2 ^ 16 → CommandLaws f e t (viewOf t)

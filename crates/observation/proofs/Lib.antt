@@ -29,6 +29,8 @@ pub mod ActsCommands
 pub mod ActsReads
 pub mod ActsCopy
 pub mod ActsLifecycle
+pub mod Loaded
+pub mod ActsLoad
 pub mod Calls
 pub mod Choices
 pub mod Bits

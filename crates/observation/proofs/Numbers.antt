@@ -2,10 +2,11 @@
 use Prim.Native.Nat.{ℕ, zero, suc, _+_}
 use mathlib.Core.Path.{_≡_, refl}
 use mathlib.Core.Bool.{Bool, true, false, cond, _||_}
+use mathlib.Core.Option.{Option}
 use mathlib.Core.List.{List, [], _∷_, map}
-use lib.Dec.{eqb, ltb}
+use lib.Dec.{eqb, ltb, leb}
 use lib.ListN.{length, getD}
-use Rattle.words.specs.Constants.{success, invalidCommand, constraintError, insufficientSpace, notFound, noFabric, membershipFailed, captureTooLong, applyFailed, singleElement, unsound, badPair, listTooLong, notScenable, clusterUnknown, globalScene, reservedScene, maxTime, maxFields}
+use Rattle.words.specs.Constants.{success, invalidCommand, constraintError, insufficientSpace, notFound, noFabric, membershipFailed, captureTooLong, applyFailed, singleElement, unsound, badPair, bufferTooShort, badImage, clashingImage, notScenable, clusterUnknown, globalScene, reservedScene, maxTime, maxFields}
 use Rattle.words.specs.Words.{wordOf, groupKeys, endpointKeys}
 use Rattle.words.specs.declared.Found.{Found}
 use Rattle.words.specs.declared.Found.the-variants.{At, Nothing}
@@ -30,8 +31,13 @@ use Rattle.commands.specs.Commands.{addScene, stored, storeCaptured, storeScene
 use Rattle.commands.specs.declared.Applied.the-variants as applied
 use Rattle.copies.specs.Copy.{Copied, copyTo, copyEntry, copyFound, copySingle, copyWalk, isSource, keyIn, sourceGroup, targetGroup, sourceKey, targetKey, copySources, copied, copyScenesInner, copyScene}
 use Rattle.reads.specs.Reads.{readAt, recallLookup, viewScene, Listed, sceneIds, listIds, getSceneMembership, infoRow, readFabricSceneInfo}
+use Rattle.image_reader.specs.Image.{Image, imageIn}
+use Rattle.image_save.specs.Saving.{imageOf, Saved, unsaved, saveImage}
+use Rattle.image_gate.specs.Verdict.{clashes, verdict}
+use Rattle.image_load.specs.Loading.{loadImage}
 use Rattle.lifecycle.specs.Lifecycle.{scenableAttributeChanged, removedFabric, removeForFabric, factoryReset, startup, failSafe}
 use Rattle.observation.specs.Numbers.{Among}
+use mathlib.Core.Option as option
 
 -- what holds in both cases of a test
 pub either : {A : Type 0} (P : A → Type 0) (b : Bool) {x y : A} → P x → P y → P (cond b x y)
@@ -118,7 +124,7 @@ module _ (P : ℕ → Type 0) (done : P success) where
   row-is (At i) fabric n t = done
   row-is Nothing fabric n t = either (λ (r : InfoRead). P (r .status)) (eqb n 0) done done
 
-  list-is : P listTooLong → (l : List ℕ) (left : ℕ) (buffer : List ℕ) (t : Table) → P (listIds l left buffer t .read .status)
+  list-is : P bufferTooShort → (l : List ℕ) (left : ℕ) (buffer : List ℕ) (t : Table) → P (listIds l left buffer t .read .status)
   unfolding listIds
   list-is long l left buffer t = either (λ (x : Listed). P (x .read .status)) (ltb (length buffer) (length l)) long done
 
@@ -245,6 +251,12 @@ info-numbers fabric endpoint single t =
     (first-each P refl _ (fabric-is P refl refl fabric, (refuse-if P refl single singleElement refl, tt)))
     (row-is P refl (firstOwned (t .records) (t .state .recorded) fabric endpoint) fabric (countKeys (t .slots .keys) (t .state .entries) (endpointKeys fabric endpoint)) t)
 
+-- what an image is answered
+verdict-is : (P : ℕ → Type 0) → P success → P badImage → P clashingImage → (i : Option Image) → P (verdict i)
+unfolding verdict
+verdict-is P done nine ten option.none = nine
+verdict-is P done nine ten (option.some i) = either P (clashes i) ten done
+
 module _ (t : Table) where
   -- a call without a request of its own answers 0 or 6
   event-is : (o : Result) → o .status ≡ success → Among (0 ∷ 6 ∷ []) (guarded (refused t) (refusalOf t success) o .status)
@@ -267,6 +279,19 @@ module _ (t : Table) where
   pub startup-numbers : Among (0 ∷ 6 ∷ []) (startup t .status)
   unfolding startup
   startup-numbers = event-is _ refl
+
+  pub save-numbers : (buffer : List ℕ) → Among (0 ∷ 6 ∷ 8 ∷ []) (saveImage buffer t .answer .status)
+  unfolding saveImage
+  save-numbers buffer =
+      let P : ℕ → Type 0 = Among (0 ∷ 6 ∷ 8 ∷ []) in
+      guarded-is P refl (λ (s : Saved). s .answer .status) (unsaved buffer t) (λ n. refl) t _ _ refl
+      (either P (leb (length (imageOf t)) (length buffer)) refl refl) refl
+
+  pub load-numbers : (image : List ℕ) → Among (0 ∷ 6 ∷ 9 ∷ 10 ∷ []) (loadImage image t .status)
+  unfolding loadImage
+  load-numbers image =
+      let P : ℕ → Type 0 = Among (0 ∷ 6 ∷ 9 ∷ 10 ∷ []) in
+      guarded-is P refl (λ (r : Result). r .status) (refused t) (λ n. refl) t _ _ refl (verdict-is P refl refl refl (imageIn (t .state .size) image)) refl
 
   pub failSafe-numbers : Among (0 ∷ 6 ∷ []) (failSafe t .status)
   unfolding failSafe

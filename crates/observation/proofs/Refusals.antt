@@ -33,7 +33,9 @@ use Rattle.commands.specs.Commands.{addScene, stored, storeCaptured, storeScene
 use Rattle.copies.specs.Copy.{Copied, copiedOf, copyTo, copyEntry, copyFound, copySingle, isSource, keyIn, copyWalk, sourceGroup, targetGroup, sourceKey, targetKey, copySources, copied, copyScenesInner, copyScene}
 use Rattle.reads.specs.Reads.{unread, readAt, recallLookup, viewScene, Listed, unlisted, sceneIds, listIds, getSceneMembership, noRow, infoRow, readFabricSceneInfo}
 use Rattle.lifecycle.specs.Lifecycle.{scenableAttributeChanged, removedFabric, removeForFabric, factoryReset, startup, failSafe}
-use Rattle.observation.specs.Refusals.{Outward, add, store, remove, removeAll, recall, lookup, view, copy, membership, info, notice, removal, reset, start, failSafeEvent, Answered, result, scene, list, row, status, answer, only, EveryRefusal, outward, RefusedRun}
+use Rattle.image_save.specs.Saving.{Saved, unsaved, saveImage}
+use Rattle.image_load.specs.Loading.{loadImage}
+use Rattle.observation.specs.Refusals.{Outward, add, store, remove, removeAll, recall, lookup, view, copy, membership, info, notice, removal, reset, start, failSafeEvent, save, load, Answered, result, scene, list, row, image, status, answer, only, EveryRefusal, outward, RefusedRun}
 use Rattle.observation.specs.Calls as calls
 use Rattle.observation.proofs.Choices.{cond-elim, and-other}
 use Rattle.observation.proofs.Numbers.{either}
@@ -206,6 +208,7 @@ module _ (c : CopyRequest) (t : Table) where
 pub every-refusal : EveryRefusal
 unfolding addScene storeScene storeCaptured removeScene removeAllScenes removedAll recallScene recallLookup viewScene
     getSceneMembership readFabricSceneInfo scenableAttributeChanged removeForFabric removedFabric factoryReset startup failSafe
+    saveImage loadImage
 every-refusal (add key time m pairs ext) t h x = ap result (result-bare t _ _ (saved-bare t _ (upsert-bare t key time ext)) h)
 every-refusal (store key m captured) t h x = ap result (result-bare t _ _ (stored-bare t key _ (upsert-bare t key _ _)) h)
 every-refusal (remove key m) t h x = ap result (result-bare t _ _ (removed-bare t (findScene key t) key) h)
@@ -226,6 +229,9 @@ every-refusal (removal f) t h x = ap result (result-bare t _ _ (succeeded t _ re
 every-refusal reset t h x = ap result (result-bare t _ _ (succeeded t _ refl) h)
 every-refusal start t h x = ap result (result-bare t _ _ (succeeded t _ refl) h)
 every-refusal failSafeEvent t h x = ap result (result-bare t _ _ (succeeded t _ refl) h)
+every-refusal (save buffer) t h x =
+    ap image (guarded-bare (λ (s : Saved). s .answer .status) (unsaved buffer t) (λ _. refl) _ _ (λ z. absurd (z refl)) h)
+every-refusal (load bytes) t h x = ap result (result-bare t _ _ (succeeded t _ refl) h)
 
 -- ---- in the runs of demand 3
 
@@ -235,6 +241,7 @@ left t (result r) = r .table
 left t (scene r) = calls.withState (r .state) t
 left t (list l) = calls.withState (l .read .state) t
 left t (row r) = calls.withState (r .state) t
+left t (image s) = calls.withState (s .answer .state) t
 
 -- recall's lookup hands the head back as it came, whatever it answers
 lookup-state : (key : SceneKey) (m : Membership) (o : Transition) (t : Table) → recallLookup key m o t .state ≡ t .state
@@ -270,6 +277,7 @@ runs (calls.removal f) t = record { number = refl; table = refl }
 runs calls.reset t = record { number = refl; table = refl }
 runs calls.start t = record { number = refl; table = refl }
 runs calls.failSafeEvent t = record { number = refl; table = refl }
+runs (calls.load bytes) t = record { number = refl; table = refl }
 
 -- a number alone leaves the table
 left-only : (c : Outward) (t : Table) (n : ℕ) → left t (only c t n) ≡ t
@@ -288,6 +296,8 @@ left-only (removal f) t n = refl
 left-only reset t n = refl
 left-only start t n = refl
 left-only failSafeEvent t n = refl
+left-only (save buffer) t n = refl
+left-only (load bytes) t n = refl
 
 pub refused-run : RefusedRun
 refused-run c t h x =

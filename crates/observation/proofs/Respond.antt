@@ -9,7 +9,7 @@ use mathlib.Core.Option.{Option, none, some, Option·map, Option·none-ne-some, 
 use lib.ListN.{length, length-append}
 use lib.Dec.{ltb, eqb}
 use borrow.Author.Tests.{eq-eqb, not-false}
-use Rattle.words.specs.Constants.{success, insufficientSpace, notFound, listTooLong, maxFields, maxShown, endOfContainer}
+use Rattle.words.specs.Constants.{success, insufficientSpace, notFound, bufferTooShort, maxFields, maxShown, endOfContainer}
 use Rattle.words.specs.Words.{wordOf, fabricOf, sceneOf, endpointKeys, groupKeys}
 use Rattle.words.proofs.Tests.{and-left}
 use Rattle.words.proofs.Ranges.{endpoint-keys, group-keys}
@@ -216,7 +216,7 @@ module _ (f e : ℕ) (hf : f < 2 ^ 8) (he : e < 2 ^ 16) where
 
   pub membership-responds : (g : ℕ) (m : Membership) (buffer : List ℕ) → CommandInRange (membership g m buffer)
       → Responds f (membership g m buffer) (λ v.
-      cond (ltb (length buffer) (length (idsIn f e g v))) (refuse listTooLong, v)
+      cond (ltb (length buffer) (length (idsIn f e g v))) (refuse bufferTooShort, v)
       (record { status = success; save = false; values = min (roomIn f v) maxShown ∷ []; ids = idsIn f e g v }, v))
   membership-responds g m buffer hc = record {
     alike = λ v w i j a.

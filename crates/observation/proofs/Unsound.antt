@@ -13,7 +13,8 @@ use Rattle.commands.specs.Commands.{addScene, storeScene, removeScene, removeAl
 use Rattle.copies.specs.Copy.{copyScene}
 use Rattle.reads.specs.Reads.{unread, viewScene, recallLookup, getSceneMembership, readFabricSceneInfo}
 use Rattle.lifecycle.specs.Lifecycle.{scenableAttributeChanged, removeForFabric, factoryReset, startup, failSafe}
-use Rattle.observation.specs.Calls.{Command, add, view, remove, removeAll, store, recall, copy, membership, info, Call, command, notice, removal, reset, start, failSafeEvent, Out, withState, ofResult, ofView, ofRecall, ofList, ofInfo, sceneKey, does, step}
+use Rattle.image_load.specs.Loading.{loadImage}
+use Rattle.observation.specs.Calls.{Command, add, view, remove, removeAll, store, recall, copy, membership, info, Call, command, notice, removal, reset, start, failSafeEvent, load, Out, withState, ofResult, ofView, ofRecall, ofList, ofInfo, sceneKey, does, step}
 use Rattle.observation.specs.Refusals.{UnsoundRun}
 
 module _ (t : Table) (h : sound t ≡ false) where
@@ -44,13 +45,14 @@ module _ (t : Table) (h : sound t ≡ false) where
   does-refused f e (info single) = ap (λ r. ofInfo r t) (refuses _ _ _)
 
   step-refused : (c : Call) → Refused (step c t)
-  unfolding step scenableAttributeChanged removeForFabric factoryReset startup failSafe
+  unfolding step scenableAttributeChanged removeForFabric factoryReset startup failSafe loadImage
   step-refused (command f e c) = does-refused f e c
   step-refused (notice e) = ap ofResult (refuses _ _ _)
   step-refused (removal f) = ap ofResult (refuses _ _ _)
   step-refused reset = ap ofResult (refuses _ _ _)
   step-refused start = ap ofResult (refuses _ _ _)
   step-refused failSafeEvent = ap ofResult (refuses _ _ _)
+  step-refused (load image) = ap ofResult (refuses _ _ _)
 
 pub unsound-refused : UnsoundRun
 unsound-refused t h c = step-refused t h c

@@ -1,5 +1,5 @@
 -- The calls on a table: what a member learns from each, and the table that each leaves. Each is one of the definitions that the
--- contracts cite, applied; there is no other definition of a call. Document 01, "In the sight of a fabric".
+-- contracts cite, applied; there is no other definition of a call. Document 01, "In the sight of a fabric"; document 02, Q-1 (the load).
 use Prim.Native.Nat.{ℕ, _^_, _<_}
 use mathlib.Core.Path.{_≡_}
 use mathlib.Core.Bool.{Bool, false, cond}
@@ -23,6 +23,7 @@ use Rattle.commands.specs.Commands.{addScene, storeScene, removeScene, removeAl
 use Rattle.copies.specs.Copy.{copyScene}
 use Rattle.reads.specs.Reads.{viewScene, recallLookup, fieldBytes, Listed, getSceneMembership, readFabricSceneInfo}
 use Rattle.lifecycle.specs.Lifecycle.{scenableAttributeChanged, removeForFabric, factoryReset, startup, failSafe}
+use Rattle.image_load.specs.Loading.{loadImage}
 use Rattle.observation.specs.Lists.{bit, count}
 
 -- a fabric's command or read on one of its endpoints, with what the host inputs; a scene list buffer is lent to membership
@@ -42,6 +43,7 @@ pub data Call : Type 0 where
   notice : (endpoint : ℕ) → Call
   removal : (fabric : ℕ) → Call
   reset start failSafeEvent : Call
+  load : (image : List ℕ) → Call
 
 -- ---- what a member learns
 
@@ -128,6 +130,7 @@ step (removal f) t = ofResult (removeForFabric f t)
 step reset t = ofResult (factoryReset t)
 step start t = ofResult (startup t)
 step failSafeEvent t = ofResult (failSafe t)
+step (load image) t = ofResult (loadImage image t)
 
 abbrev pub answer : Call → Table → Answer
 answer c t = step c t .0
@@ -162,3 +165,4 @@ InRange (removal f) = f < 2 ^ 8
 InRange reset = Unit {0}
 InRange start = Unit {0}
 InRange failSafeEvent = Unit {0}
+InRange (load image) = Bytes image

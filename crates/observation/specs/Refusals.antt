@@ -27,6 +27,8 @@ use Rattle.commands.specs.Commands.{addScene, storeScene, removeScene, removeAl
 use Rattle.copies.specs.Copy.{sourceGroup, targetGroup, keyIn, isSource, copyScene}
 use Rattle.reads.specs.Reads.{unread, viewScene, recallLookup, Listed, unlisted, getSceneMembership, noRow, readFabricSceneInfo}
 use Rattle.lifecycle.specs.Lifecycle.{scenableAttributeChanged, removeForFabric, factoryReset, startup, failSafe}
+use Rattle.image_save.specs.Saving.{Saved, unsaved, saveImage}
+use Rattle.image_load.specs.Loading.{loadImage}
 use Rattle.observation.specs.Calls as calls
 
 -- ---- the outward calls, each with all its inputs but the table
@@ -45,20 +47,24 @@ pub data Outward : Type 0 where
   notice : (endpoint : ℕ) → Outward
   removal : (fabric : ℕ) → Outward
   reset start failSafeEvent : Outward
+  save : (buffer : List ℕ) → Outward
+  load : (bytes : List ℕ) → Outward
 
--- all that a call answers and leaves. A result has the table afterwards, a list the scene list buffer; a read is lent the table's memory
--- to read alone, and hands the head back
+-- all that a call answers and leaves. A result has the table afterwards, a list the scene list buffer, a save the image buffer; a read and
+-- a save are lent the table's memory to read alone, and hand the head back
 pub data Answered : Type 0 where
   result : Result → Answered
   scene : SceneRead → Answered
   list : Listed → Answered
   row : InfoRead → Answered
+  image : Saved → Answered
 
 abbrev pub status : Answered → ℕ
 status (result r) = r .status
 status (scene r) = r .status
 status (list l) = l .read .status
 status (row r) = r .status
+status (image s) = s .answer .status
 
 -- what a call answers: the definition that its contract cites
 abbrev pub answer : Outward → Table → Answered
@@ -77,8 +83,11 @@ answer (removal f) t = result (removeForFabric f t)
 answer reset t = result (factoryReset t)
 answer start t = result (startup t)
 answer failSafeEvent t = result (failSafe t)
+answer (save buffer) t = image (saveImage buffer t)
+answer (load bytes) t = result (loadImage bytes t)
 
--- a number and nothing else: no save mark and the very table; no fields; no list and the very buffer; no row. The head as it came
+-- a number and nothing else: no save mark and the very table; no fields; no list and the very buffer; no row; no image and the very buffer.
+-- The head as it came
 abbrev pub only : Outward → Table → ℕ → Answered
 only (add key time m pairs ext) t n = result (refused t n)
 only (store key m captured) t n = result (refused t n)
@@ -95,6 +104,8 @@ only (removal f) t n = result (refused t n)
 only reset t n = result (refused t n)
 only start t n = result (refused t n)
 only failSafeEvent t n = result (refused t n)
+only (save buffer) t n = image (unsaved buffer t n)
+only (load bytes) t n = result (refused t n)
 
 -- ---- the sentence
 
@@ -116,6 +127,8 @@ midway (removal f) t = false
 midway reset t = false
 midway start t = false
 midway failSafeEvent t = false
+midway (save buffer) t = false
+midway (load bytes) t = false
 
 -- of every table, sound or not, reached or not
 abbrev pub EveryRefusal : Type 0
@@ -197,6 +210,7 @@ outward (calls.removal f) = removal f
 outward calls.reset = reset
 outward calls.start = start
 outward calls.failSafeEvent = failSafeEvent
+outward (calls.load bytes) = load bytes
 
 -- a table that is not sound: whatever is wrong with it, every call answers 6 and nothing else, and leaves the very table
 abbrev pub UnsoundRun : Type 0

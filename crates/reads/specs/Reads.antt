@@ -5,7 +5,7 @@ use mathlib.Core.Bool.{Bool, true, false, cond, _&&_}
 use mathlib.Core.List.{List, []}
 use lib.Dec.{eqb, ltb}
 use lib.ListN.{length, getD}
-use Rattle.words.specs.Constants.{success, notFound, listTooLong, maxScenes, maxShown}
+use Rattle.words.specs.Constants.{success, notFound, bufferTooShort, maxScenes, maxShown}
 use Rattle.words.specs.Words.{groupOf, sceneOf, keyOfRecord, isValid, endpointKeys, groupKeys}
 use Rattle.words.specs.declared.Found.{Found}
 use Rattle.words.specs.declared.Found.the-variants.{At, Nothing}
@@ -79,7 +79,7 @@ unlisted buffer t n = listedOf (record { status = n; remaining = 0; len = 0; sta
 -- 8 if the list is longer than the buffer; else the list in its front, and the buffer past it stays
 unfoldable pub listIds : List ℕ → ℕ → List ℕ → Table → Listed
 listIds l left buffer t =
-    cond (ltb (length buffer) (length l)) (unlisted buffer t listTooLong)
+    cond (ltb (length buffer) (length l)) (unlisted buffer t bufferTooShort)
     (listedOf (record { status = success; remaining = left; len = length l; state = t .state }) (laid l buffer))
 
 unfoldable pub getSceneMembership : GroupKey → Membership → List ℕ → Table → Listed

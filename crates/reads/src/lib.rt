@@ -293,7 +293,7 @@ impl Reads {
                 state,
             };
         }
-        ListRead::refused(Fault::LIST_TOO_LONG, state)
+        ListRead::refused(Fault::BUFFER_TOO_SHORT, state)
     }
 
     // The fabric's row of FabricSceneInfo on an endpoint, if it has an entry there or a record.

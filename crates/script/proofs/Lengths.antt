@@ -17,7 +17,7 @@ use Rattle.script_lines.specs.Values.{valueAt}
 use Rattle.script_answers.specs.Done.{Called, answerOf}
 use Rattle.script_answers.specs.Answers.{sizeLine}
 use Rattle.script_answers.specs.Dump.{tableLines}
-use Rattle.script_answers.proofs.AnswerLengths.{all-puts, size-puts, table-puts, answer-puts}
+use Rattle.script_answers.proofs.AnswerLengths.{all-puts, size-puts, table-puts, answerMost, answer-puts}
 use Rattle.script.specs.Calls.{call}
 use Rattle.script.specs.Running.{Session, session, tableIn, answered, sized, wrong, called, obeyed, numbers, texts, saidRuns, runLine}
 use Rattle.script.proofs.RunLaws.{call-fits}
@@ -40,38 +40,41 @@ error-puts line r = all-puts (errorLine line r) 48 (let n = number-length line i
 
 -- ---- a line
 
--- what a line is answered is one text, whatever the output holds, and no longer than a dump of what the lent slices have. The list buffer
--- counts as the line leaves it
-module _ (m : Machine) (k t f r ids line : List ℕ) (most : ℕ) (s₀ : Sheet) where
-  abbrev on : Sheet → Session
-  on s = session m k t f r ids line s
+-- the most that a dump of what the lent slices have takes, and an answer with a buffer of at most so many bytes
+abbrev pub dumpMost : List ℕ → List ℕ → ℕ
+dumpMost keys records = 65 + length keys * 366 + length records * 90
 
-  abbrev room : ℕ
-  room = 414 + length k * 366 + length r * 90 + most * 21
+abbrev pub callMost : ℕ → ℕ
+callMost most = 21596 + most * 2
+
+-- what a line is answered is one text, whatever the output holds, and no longer than either. The buffer counts as the line leaves it
+module _ (m : Machine) (k t f r buffer line : List ℕ) (most room : ℕ) (dump : dumpMost k r ≤ room) (answer : callMost most ≤ room) (s₀ : Sheet) where
+  abbrev on : Sheet → Session
+  on s = session m k t f r buffer line s
 
   obeyed-puts : (letter : ℕ) (values : List ℕ) (bytes : ℕ → List ℕ)
-      → length (obeyed letter values bytes (on s₀) .ids) ≤ most
+      → length (obeyed letter values bytes (on s₀) .buffer) ≤ most
       → Puts room (λ s. obeyed letter values bytes (on s) .output)
   unfolding obeyed
   obeyed-puts letter values bytes =
-      elim (eqb letter 78) as (λ b. length (numbered b s₀ .ids) ≤ most → Puts room (λ s. numbered b s .output)) [
-        | true ↦ λ h. puts-most 28 room _ (omega arith) (size-puts (m .trace) (valueAt values 0))
+      elim (eqb letter 78) as (λ b. length (numbered b s₀ .buffer) ≤ most → Puts room (λ s. numbered b s .output)) [
+        | true ↦ λ h. puts-most 28 room _ (omega (arith, answer)) (size-puts (m .trace) (valueAt values 0))
         | false ↦
-            elim (m .present) as (λ b. length (having b s₀ .ids) ≤ most → Puts room (λ s. having b s .output)) [
+            elim (m .present) as (λ b. length (having b s₀ .buffer) ≤ most → Puts room (λ s. having b s .output)) [
               | true ↦
-                  elim (eqb letter 68) as (λ b. length (dumping b s₀ .ids) ≤ most → Puts room (λ s. dumping b s .output)) [
-                    | true ↦ λ h. puts-most (65 + length k * 366 + length r * 90) room _ (omega arith) (table-puts (tableIn (on s₀)))
+                  elim (eqb letter 68) as (λ b. length (dumping b s₀ .buffer) ≤ most → Puts room (λ s. dumping b s .output)) [
+                    | true ↦ λ h. puts-most (dumpMost k r) room _ dump (table-puts (tableIn (on s₀)))
                     | false ↦ λ h.
-                        puts-most (349 + length (made .ids) * 21) room _ (let l = h in omega arith)
-                        (answer-puts (m .trace) letter (answerOf (made .done)) (made .ids) (made .done .table .slots .fields)
-                        (call-fits letter values bytes ids (tableIn (on s₀))))
+                        puts-most (answerMost (made .buffer)) room _ (let l = h in omega (arith, answer))
+                        (answer-puts (m .trace) letter (answerOf (made .done)) (made .buffer) (made .done .table .slots .fields)
+                        (call-fits letter values bytes buffer (tableIn (on s₀))))
                   ]
-              | false ↦ λ h. puts-most 48 room _ (omega arith) (error-puts (m .lines) NoTable)
+              | false ↦ λ h. puts-most 48 room _ (omega (arith, answer)) (error-puts (m .lines) NoTable)
             ]
       ]
     where
       made : Called
-      made = call letter values bytes ids (tableIn (on s₀))
+      made = call letter values bytes buffer (tableIn (on s₀))
 
       dumping : Bool → Sheet → Session
       dumping b s = cond b (answered m (tableLines (tableIn (on s))) (on s)) (called letter values bytes (on s))
@@ -82,12 +85,13 @@ module _ (m : Machine) (k t f r ids line : List ℕ) (most : ℕ) (s₀ : Sheet)
       numbered : Bool → Sheet → Session
       numbered b s = cond b (answered (sized (valueAt values 0) m) (writes (sizeLine (m .trace) (valueAt values 0))) (on s)) (having (m .present) s)
 
-  said-puts : (said : Said) → length (saidRuns said (on s₀) .ids) ≤ most → Puts room (λ s. saidRuns said (on s) .output)
+  said-puts : (said : Said) → length (saidRuns said (on s₀) .buffer) ≤ most → Puts room (λ s. saidRuns said (on s) .output)
   said-puts lines.Nothing h = puts-most 0 room (λ s. s) (omega arith) puts-nothing
-  said-puts (Wrong reason) h = puts-most 48 room _ (omega arith) (error-puts (m .lines) reason)
+  said-puts (Wrong reason) h = puts-most 48 room _ (omega (arith, answer)) (error-puts (m .lines) reason)
   said-puts (Call letter words) h = obeyed-puts letter (numbers words) (texts words) h
 
-pub line-puts : (m : Machine) (k t f r ids line : List ℕ) (most : ℕ) (s₀ : Sheet)
-    → length (runLine (session m k t f r ids line s₀) .ids) ≤ most
-    → Puts (414 + length k * 366 + length r * 90 + most * 21) (λ s. runLine (session m k t f r ids line s) .output)
-line-puts m k t f r ids line most s₀ h = said-puts m k t f r ids (lineLeft (m .trace) line) most s₀ (lineSays (m .trace) line) h
+pub line-puts : (m : Machine) (k t f r buffer line : List ℕ) (most room : ℕ) → dumpMost k r ≤ room → callMost most ≤ room → (s₀ : Sheet)
+    → length (runLine (session m k t f r buffer line s₀) .buffer) ≤ most
+    → Puts room (λ s. runLine (session m k t f r buffer line s) .output)
+line-puts m k t f r buffer line most room dump answer s₀ h =
+    said-puts m k t f r buffer (lineLeft (m .trace) line) most room dump answer s₀ (lineSays (m .trace) line) h

@@ -27,34 +27,37 @@ use Rattle.script.specs.Running.{sized, withState, Ended, Session, sessi
 use Rattle.script_answers.proofs.DoneLaws.{fit-called}
 use Rattle.script_commands.proofs.Fits.{command-fits}
 use Rattle.script_reads.proofs.Fits.{query-fits}
+use Rattle.script_images.specs.Images.{save, saveIn, load, image}
+use Rattle.script_images.proofs.Fits.{image-fits}
 use Rattle.script_events.proofs.Fits.{event-fits, write-fits}
 
--- a line that leaves the lent memory, the list buffer and the line as they were
-pub ended : (n m : Machine) (k t f w ids line : List ℕ) (written : Sheet → Sheet) (out after : List ℕ) (at : ℕ) (r : Ran)
+-- a line that leaves the lent memory, the buffer and the line as they were
+pub ended : (n m : Machine) (k t f w buffer line : List ℕ) (written : Sheet → Sheet) (out after : List ℕ) (at : ℕ) (r : Ran)
     → Ended m written out at after r
-    → session (r .machine) k t f w ids line (sheet after (r .at)) ≡ answered m written (session n k t f w ids line (sheet out at))
-ended n m k t f w ids line written out after at r e = λ i. session (e .machine i) k t f w ids line (e .output i)
+    → session (r .machine) k t f w buffer line (sheet after (r .at)) ≡ answered m written (session n k t f w buffer line (sheet out at))
+ended n m k t f w buffer line written out after at r e = λ i. session (e .machine i) k t f w buffer line (e .output i)
 
 -- a call of the table
-pub called-ends : (s : Session) (letter : ℕ) (a : Answer) (k t f w ids : List ℕ) (o : Sheet) (c : Called)
-    → o ≡ answerLine (s .machine .trace) letter a ids f (s .output)
-    → calledOf (doneOf a (tableOf (a .state) k t f w)) ids ≡ c
-    → session (withState (a .state) (s .machine)) k t f w ids (s .line) o ≡ answeredCall letter c s
-called-ends s letter a k t f w ids o c p q =
-    ap (session (withState (a .state) (s .machine)) k t f w ids (s .line)) p ∙ ap (λ (x : Called). answeredCall letter x s) q
+pub called-ends : (s : Session) (letter : ℕ) (a : Answer) (k t f w buffer : List ℕ) (o : Sheet) (c : Called)
+    → o ≡ answerLine (s .machine .trace) letter a buffer f (s .output)
+    → calledOf (doneOf a (tableOf (a .state) k t f w)) buffer ≡ c
+    → session (withState (a .state) (s .machine)) k t f w buffer (s .line) o ≡ answeredCall letter c s
+called-ends s letter a k t f w buffer o c p q =
+    ap (session (withState (a .state) (s .machine)) k t f w buffer (s .line)) p ∙ ap (λ (x : Called). answeredCall letter x s) q
 
 -- ---- a call's tail fits
 
-pub call-fits : (letter : ℕ) (values : List ℕ) (bytes : ℕ → List ℕ) (ids : List ℕ) (t : Table) → fits (call letter values bytes ids t .done .tail)
+pub call-fits : (letter : ℕ) (values : List ℕ) (bytes : ℕ → List ℕ) (buffer : List ℕ) (t : Table) → fits (call letter values bytes buffer t .done .tail)
 unfolding call
-call-fits letter values bytes ids t =
+call-fits letter values bytes buffer t =
     fit-called (oneOf letter (65 ∷ 83 ∷ 82 ∷ 88 ∷ 67 ∷ [])) _ _ (command-fits letter values bytes t)
-    (fit-called (oneOf letter (86 ∷ 76 ∷ 77 ∷ 73 ∷ [])) _ _ (query-fits letter values ids t)
-    (fit-called (oneOf letter (75 ∷ 101 ∷ 114 ∷ [])) _ _ (write-fits letter values bytes t) (event-fits letter values t)))
+    (fit-called (oneOf letter (86 ∷ 76 ∷ 77 ∷ 73 ∷ [])) _ _ (query-fits letter values buffer t)
+    (fit-called (oneOf letter (75 ∷ 101 ∷ 114 ∷ [])) _ _ (write-fits letter values bytes t)
+    (fit-called (oneOf letter (80 ∷ 71 ∷ [])) _ _ (image-fits letter values bytes buffer t) (event-fits letter values t))))
 
-pub answer-fits : (a : Answer) (after : Table) (later : List ℕ) (letter : ℕ) (values : List ℕ) (bytes : ℕ → List ℕ) (ids : List ℕ) (t : Table)
-    → calledOf (doneOf a after) later ≡ call letter values bytes ids t → fits (a .tail)
-answer-fits a after later letter values bytes ids t e = subst (λ (c : Called). fits (c .done .tail)) (sym e) (call-fits letter values bytes ids t)
+pub answer-fits : (a : Answer) (after : Table) (later : List ℕ) (letter : ℕ) (values : List ℕ) (bytes : ℕ → List ℕ) (buffer : List ℕ) (t : Table)
+    → calledOf (doneOf a after) later ≡ call letter values bytes buffer t → fits (a .tail)
+answer-fits a after later letter values bytes buffer t e = subst (λ (c : Called). fits (c .done .tail)) (sym e) (call-fits letter values bytes buffer t)
 
 -- ---- what an understood line asks for
 
@@ -101,12 +104,12 @@ none-of letter ls n l y = ne-eqb letter l (λ e. false≢true (sym n ∙ ap (λ 
 
 -- the letters that take words
 abbrev worded : List ℕ
-worded = 78 ∷ 65 ∷ 83 ∷ 86 ∷ 82 ∷ 88 ∷ 67 ∷ 76 ∷ 77 ∷ 73 ∷ 84 ∷ 70 ∷ 75 ∷ 101 ∷ 114 ∷ []
+worded = 78 ∷ 65 ∷ 83 ∷ 86 ∷ 82 ∷ 88 ∷ 67 ∷ 76 ∷ 77 ∷ 73 ∷ 84 ∷ 70 ∷ 75 ∷ 101 ∷ 114 ∷ 80 ∷ 71 ∷ []
 
 -- any other letter asks for the same whatever is read behind it
 wordless : (letter : ℕ) → oneOf letter worded ≡ false → (values : List ℕ) (bytes : ℕ → List ℕ) (s : Session)
     → obeyed letter values bytes s ≡ obeyed letter [] (λ i. []) s
-unfolding obeyed call oneOf command query hostWrite event
+unfolding obeyed call oneOf command query hostWrite image event
 wordless letter n values bytes s =
     let no : (l : ℕ) → oneOf l worded ≡ true → eqb letter l ≡ false = none-of letter worded n in
     simp (
@@ -125,6 +128,8 @@ wordless letter n values bytes s =
       no 75 refl,
       no 101 refl,
       no 114 refl,
+      no 80 refl,
+      no 71 refl,
     )
 
 module _ (values starts line : List ℕ) (s : Session) where
@@ -138,8 +143,8 @@ module _ (values starts line : List ℕ) (s : Session) where
       (texts (words letter)) s
 
   same-each : At Same worded
-  unfolding obeyed call oneOf command query hostWrite event add store view remove removeAll copy recall listIn list info setVersion pushEntry pushRecord kindsOf positions
-  same-each = (refl, (refl, (refl, (refl, (refl, (refl, (refl, (refl, (refl, (refl, (refl, (refl, (refl, (refl, (refl, tt)))))))))))))))
+  unfolding obeyed call oneOf command query hostWrite event add store view remove removeAll copy recall listIn list info setVersion pushEntry pushRecord image saveIn save load kindsOf positions
+  same-each = (refl, (refl, (refl, (refl, (refl, (refl, (refl, (refl, (refl, (refl, (refl, (refl, (refl, (refl, (refl, (refl, (refl, tt)))))))))))))))))
 
   pub same-words : (letter : ℕ) → Same letter
   same-words letter = cases Same letter worded same-each (λ n. wordless letter n _ _ s ∙ sym (wordless letter n _ _ s))

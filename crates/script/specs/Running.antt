@@ -1,4 +1,4 @@
--- What a line leaves: the machine, the lent memory, the list buffer, the line itself and the output.
+-- What a line leaves: the machine, the lent memory, the buffer of lists and images, the line itself and the output.
 use Prim.Native.Nat.{ℕ, _+_, _%_, _^_}
 use mathlib.Core.Path.{_≡_}
 use mathlib.Core.Bool.{Bool, true, false, cond}
@@ -49,40 +49,40 @@ pub record Session : Type 0 where
   pub machine : Machine
   pub slots : Slots
   pub records : List ℕ
-  pub ids : List ℕ
+  pub buffer : List ℕ
   pub line : List ℕ
   pub output : Sheet
 
--- the machine, keys, times, fields, records, the list buffer, the line and the output
+-- the machine, keys, times, fields, records, the buffer of lists and images, the line and the output
 abbrev pub session : Machine → List ℕ → List ℕ → List ℕ → List ℕ → List ℕ → List ℕ → Sheet → Session
-session m k t f r ids line output = record { machine = m; slots = slotsOf k t f; records = r; ids = ids; line = line; output = output }
+session m k t f r buffer line output = record { machine = m; slots = slotsOf k t f; records = r; buffer = buffer; line = line; output = output }
 
 abbrev pub tableIn : Session → Table
 tableIn s = record { state = s .machine .state; slots = s .slots; records = s .records }
 
 -- another machine and more output; all else stays as it was
 abbrev pub answered : Machine → (Sheet → Sheet) → Session → Session
-answered m written s = record { machine = m; slots = s .slots; records = s .records; ids = s .ids; line = s .line; output = written (s .output) }
+answered m written s = record { machine = m; slots = s .slots; records = s .records; buffer = s .buffer; line = s .line; output = written (s .output) }
 
 -- the line is not understood
 abbrev pub wrong : Reason → Session → Session
 wrong reason s = answered (s .machine) (writes (errorLine (s .machine .lines) reason)) s
 
--- the table and the list buffer that a call leaves, and its answer
+-- the table and the buffer of lists and images that a call leaves, and its answer
 abbrev pub answeredCall : ℕ → Called → Session → Session
 answeredCall letter c s = record {
   machine = withState (c .done .table .state) (s .machine);
   slots = c .done .table .slots;
   records = c .done .table .records;
-  ids = c .ids;
+  buffer = c .buffer;
   line = s .line;
-  output = answerLine (s .machine .trace) letter (answerOf (c .done)) (c .ids) (c .done .table .slots .fields) (s .output);
+  output = answerLine (s .machine .trace) letter (answerOf (c .done)) (c .buffer) (c .done .table .slots .fields) (s .output);
 }
 
 -- ---- a line, by its letter, the numbers of its words and the bytes that they spell
 
 abbrev pub called : ℕ → List ℕ → (ℕ → List ℕ) → Session → Session
-called letter values bytes s = answeredCall letter (call letter values bytes (s .ids) (tableIn s)) s
+called letter values bytes s = answeredCall letter (call letter values bytes (s .buffer) (tableIn s)) s
 
 -- N makes a table; without one all else is an error; D shows it, and any other letter calls it
 unfoldable pub obeyed : ℕ → List ℕ → (ℕ → List ℕ) → Session → Session
@@ -123,7 +123,7 @@ lineRead s = record {
   machine = s .machine;
   slots = s .slots;
   records = s .records;
-  ids = s .ids;
+  buffer = s .buffer;
   line = lineLeft (s .machine .trace) (s .line);
   output = s .output;
 }

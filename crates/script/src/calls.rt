@@ -1,8 +1,9 @@
-// The calls of the table: each letter belongs to the commands, the reads, the raw writes or the events.
+// The calls of the table: each letter belongs to the commands, the reads, the raw writes, the images or the events.
 use script_answers::Answer;
 use script_commands::command;
 use script_events::event;
 use script_events::host_write;
+use script_images::image;
 use script_lines::Line;
 use script_lines::one_of;
 use script_reads::query;
@@ -20,7 +21,7 @@ pub(crate) fn call(
     times: &mut [u32],
     fields: &mut [u8],
     records: &mut [u64],
-    ids: &mut [u8],
+    buffer: &mut [u8],
     line: &[u8],
     read: Line,
 ) -> Answer
@@ -28,17 +29,20 @@ pub(crate) fn call(
         let before = tableOf state (now (keys .entry)) (now (times .entry)) (now (fields .entry)) (now (records .entry)) in
         let after = tableOf (r .state) (now (keys .exit)) (now (times .exit)) (now (fields .exit)) (now (records .exit)) in
         let bytes = bytesAt read (now (line .entry)) in
-        ⌜ calledOf (doneOf r after) (now (ids .exit)) ≡ call (read .letter) (read .values) bytes (now (ids .entry)) before ⌝ }
+        ⌜ calledOf (doneOf r after) (now (buffer .exit)) ≡ call (read .letter) (read .values) bytes (now (buffer .entry)) before ⌝ }
 {
     let letter = read.letter;
     if one_of(letter, b"ASRXC") {
         return command(state, keys, times, fields, records, line, read);
     }
     if one_of(letter, b"VLMI") {
-        return query(state, keys, times, fields, records, ids, read);
+        return query(state, keys, times, fields, records, buffer, read);
     }
     if one_of(letter, b"Ker") {
         return host_write(state, keys, times, fields, records, line, read);
+    }
+    if one_of(letter, b"PG") {
+        return image(state, keys, times, fields, records, buffer, line, read);
     }
     event(state, keys, times, fields, records, read)
 }

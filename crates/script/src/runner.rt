@@ -104,7 +104,7 @@ impl Machine {
         times: &mut [u32],
         fields: &mut [u8],
         records: &mut [u64],
-        ids: &mut [u8],
+        buffer: &mut [u8],
         line: &[u8],
         out: &mut [u8],
         at: usize,
@@ -112,18 +112,18 @@ impl Machine {
     ) -> Ran
         ensures { λ r.
             let before = session self (now (keys .entry)) (now (times .entry)) (now (fields .entry)) (now (records .entry))
-            (now (ids .entry)) (now (line .entry)) (sheet (now (out .entry)) at) in
+            (now (buffer .entry)) (now (line .entry)) (sheet (now (out .entry)) at) in
             let after = session (r .machine) (now (keys .exit)) (now (times .exit)) (now (fields .exit)) (now (records .exit))
-            (now (ids .exit)) (now (line .entry)) (sheet (now (out .exit)) (r .at)) in
+            (now (buffer .exit)) (now (line .entry)) (sheet (now (out .exit)) (r .at)) in
             ⌜ after ≡ called (read .letter) (read .values) (bytesAt read (now (line .entry))) before ⌝ }
     {
         let before = self.state;
-        let answer = call(before, keys, times, fields, records, ids, line, read);
+        let answer = call(before, keys, times, fields, records, buffer, line, read);
         let after = answer.state;
         self.state = after;
         Ran {
             machine: self,
-            at: put_answer(out, at, self.trace, read.letter, answer, fields, ids),
+            at: put_answer(out, at, self.trace, read.letter, answer, fields, buffer),
         }
     }
 
@@ -134,7 +134,7 @@ impl Machine {
         times: &mut [u32],
         fields: &mut [u8],
         records: &mut [u64],
-        ids: &mut [u8],
+        buffer: &mut [u8],
         line: &[u8],
         out: &mut [u8],
         at: usize,
@@ -142,9 +142,9 @@ impl Machine {
     ) -> Ran
         ensures { λ r.
             let before = session self (now (keys .entry)) (now (times .entry)) (now (fields .entry)) (now (records .entry))
-            (now (ids .entry)) (now (line .entry)) (sheet (now (out .entry)) at) in
+            (now (buffer .entry)) (now (line .entry)) (sheet (now (out .entry)) at) in
             let after = session (r .machine) (now (keys .exit)) (now (times .exit)) (now (fields .exit)) (now (records .exit))
-            (now (ids .exit)) (now (line .entry)) (sheet (now (out .exit)) (r .at)) in
+            (now (buffer .exit)) (now (line .entry)) (sheet (now (out .exit)) (r .at)) in
             ⌜ after ≡ obeyed (read .letter) (read .values) (bytesAt read (now (line .entry))) before ⌝ }
     {
         if read.letter == b'N' {
@@ -154,7 +154,7 @@ impl Machine {
             if read.letter == b'D' {
                 return self.dumped(keys, times, fields, records, out, at);
             }
-            return self.called(keys, times, fields, records, ids, line, out, at, read);
+            return self.called(keys, times, fields, records, buffer, line, out, at, read);
         }
         self.wrong(out, at, Reason::NoTable)
     }
@@ -169,16 +169,16 @@ pub fn run_line(
     times: &mut [u32],
     fields: &mut [u8],
     records: &mut [u64],
-    ids: &mut [u8],
+    buffer: &mut [u8],
     line: &mut [u8],
     out: &mut [u8],
     at: usize,
 ) -> Ran
     ensures { λ r.
         let before = session (counted machine) (now (keys .entry)) (now (times .entry)) (now (fields .entry)) (now (records .entry))
-        (now (ids .entry)) (now (line .entry)) (sheet (now (out .entry)) at) in
+        (now (buffer .entry)) (now (line .entry)) (sheet (now (out .entry)) at) in
         let after = session (r .machine) (now (keys .exit)) (now (times .exit)) (now (fields .exit)) (now (records .exit))
-        (now (ids .exit)) (now (line .exit)) (sheet (now (out .exit)) (r .at)) in
+        (now (buffer .exit)) (now (line .exit)) (sheet (now (out .exit)) (r .at)) in
         ⌜ after ≡ runLine before ⌝ }
 {
     let m = machine.counted();
@@ -187,7 +187,7 @@ pub fn run_line(
     match verdict {
         Verdict::Nothing => Ran { machine: m, at },
         Verdict::Wrong(reason) => m.wrong(out, at, reason),
-        Verdict::Call => m.obeyed(keys, times, fields, records, ids, line, out, at, read),
+        Verdict::Call => m.obeyed(keys, times, fields, records, buffer, line, out, at, read),
     }
 }
 

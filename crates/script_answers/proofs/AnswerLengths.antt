@@ -1,12 +1,12 @@
 -- How long the lines of answers are at most: a number has 20 digits, a scene 128 field bytes. Assumes nothing.
-use Prim.Native.Nat.{ℕ, _+_, _*_, _≤_, _<_, min}
+use Prim.Native.Nat.{ℕ, _+_, _*_, _/_, _%_, _≤_, _<_, min}
 use mathlib.Core.Path.{_≡_, refl, ap}
 use mathlib.Core.Bool.{Bool, true, false, cond, _&&_}
 use mathlib.Core.List.{List, [], _∷_}
 use native.Mathlib.Omega.{arith}
 use lib.Dec.{ltb}
-use lib.ListN.{length, getD, drop, length-take}
-use borrow.Author.Tests.{ltb-true}
+use lib.ListN.{length, getD, take, drop, length-take, length-append}
+use borrow.Author.Tests.{ltb-true, ltb-false}
 use Rattle.words.specs.Constants.{maxFields, stride}
 use Rattle.words.specs.Words.{fabricOf, endpointOf, groupOf, sceneOf, keyOfRecord, isValid}
 use Rattle.words.proofs.Tests.{and-left, and-right}
@@ -16,13 +16,13 @@ use Rattle.state.specs.Table.{Table}
 use Rattle.state.specs.Sound.{sound}
 use Rattle.reads.specs.Reads.{fieldBytes}
 use Rattle.state.proofs.Laws.{sound-length}
-use Rattle.text_output.specs.Writing.{puts, writes, writesBelow, Puts, digitsIn, decimal, number, newline, flagText, hexByte, hexText, bytesText, isFault, statusText}
-use Rattle.text_output.proofs.Writing.{decimal-one}
+use Rattle.text_output.specs.Writing.{puts, writes, writesBelow, Puts, digitsIn, decimal, number, newline, spaced, flagText, hexByte, hexText, bytesText, isFault, statusText}
+use Rattle.text_output.proofs.Writing.{decimal-one, decimal-more}
 use Rattle.text_output.proofs.Whole.{total, puts-text, puts-nothing, puts-then, puts-most, puts-all, puts-below, number-length}
 use Rattle.script_answers.specs.declared.Row.{Row}
 use Rattle.script_answers.specs.declared.Answer.{Answer}
 use Rattle.script_answers.specs.declared.Tail.{Tail}
-use Rattle.script_answers.specs.declared.Tail.the-variants.{Nothing, Scene, Ids, NoRow, Info}
+use Rattle.script_answers.specs.declared.Tail.the-variants.{Nothing, Scene, Ids, NoRow, Info, Image}
 use Rattle.script_answers.specs.Answers.{sizeLine, headTexts, rowTexts, sceneBytes, sceneTexts, listTexts, fits, tailOf, answerLine}
 use Rattle.script_answers.specs.Dump.{entryTexts, entryLine, recordLine, countsLine, tableLines}
 
@@ -37,11 +37,24 @@ unfolding digitsIn
 flag-length true = omega arith
 flag-length false = omega arith
 
-status-length : (s : ℕ) → length (statusText s) ≤ 2
+-- a fault has at most two digits
+fault-length : (s : ℕ) → s < 16 → length (decimal s) ≤ 2
+fault-length s l =
+    (elim (ltb s 10) as (λ b. ltb s 10 ≡ b → length (decimal s) ≤ 2) [
+      | true ↦ λ e. let d = ap length (decimal-one s (ltb-true s 10 e)) in omega arith
+      | false ↦ λ e.
+          let m = ltb-false s 10 e in
+          let d = ap length (decimal-more s m (omega arith)) in
+          let a = length-append (decimal (s / 10)) ((48 + s % 10) ∷ []) in
+          let t = ap length (decimal-one (s / 10) (omega arith)) in
+          omega arith
+    ]) refl
+
+status-length : (s : ℕ) → length (statusText s) ≤ 3
 unfolding statusText isFault
 status-length s =
-    (elim (isFault s) as (λ b. isFault s ≡ b → length (cond b (70 ∷ decimal s) (hexByte s)) ≤ 2) [
-      | true ↦ λ e. let l : s < 10 = ltb-true s 10 (and-left (ltb s 10) (ltb 0 s) e) in let d = ap length (decimal-one s l) in omega arith
+    (elim (isFault s) as (λ b. isFault s ≡ b → length (cond b (70 ∷ decimal s) (hexByte s)) ≤ 3) [
+      | true ↦ λ e. let d = fault-length s (ltb-true s 16 (and-left (ltb s 16) (ltb 0 s) e)) in omega arith
       | false ↦ λ e. omega arith
     ]) refl
 
@@ -75,7 +88,7 @@ unfolding total
 size-puts true n = all-puts (sizeLine true n) 28 (let l = number-length n in omega arith)
 size-puts false n = all-puts (sizeLine false n) 28 (let l = number-length n in omega arith)
 
-head-puts : (trace : Bool) (letter : ℕ) (a : Answer) → Puts 69 (writes (headTexts trace letter a))
+head-puts : (trace : Bool) (letter : ℕ) (a : Answer) → Puts 70 (writes (headTexts trace letter a))
 unfolding total
 head-puts trace letter a =
     let s = status-length (a .status) in
@@ -83,8 +96,8 @@ head-puts trace letter a =
     let l = number-length (a .state .entries) in
     let m = number-length (a .state .recorded) in
     let n = number-length (a .state .dataver) in
-    all-puts (headTexts trace letter a) 69
-    (elim trace as (λ b. total (headTexts b letter a) ≤ 69) [
+    all-puts (headTexts trace letter a) 70
+    (elim trace as (λ b. total (headTexts b letter a) ≤ 70) [
       | true ↦ omega arith
       | false ↦ omega arith
     ])
@@ -134,12 +147,12 @@ scene-puts : (time : ℕ) (fields : List ℕ) → length fields ≤ maxFields �
 unfolding total
 scene-puts time fields f = let a = number-length time in let b = bytes-length fields in all-puts (sceneTexts time fields) 279 (omega arith)
 
-list-puts : (remaining : ℕ) (ids : List ℕ) (len : ℕ) → Puts (21 + min len (length ids) * 21) (listTexts remaining ids len)
+list-puts : (remaining : ℕ) (buffer : List ℕ) (len : ℕ) → Puts (21 + min len (length buffer) * 21) (listTexts remaining buffer len)
 unfolding total
-list-puts remaining ids len =
-    puts-then 21 (min len (length ids) * 21) (puts (number remaining)) (writesBelow (λ i. number (getD ids i 0) ∷ []) (min len (length ids)))
+list-puts remaining buffer len =
+    puts-then 21 (min len (length buffer) * 21) (puts (number remaining)) (writesBelow (λ i. number (getD buffer i 0) ∷ []) (min len (length buffer)))
     (puts-text 21 (number remaining) (number-length remaining))
-    (puts-below (λ i. number (getD ids i 0) ∷ []) 21 (min len (length ids)) (λ i l. let n = number-length (getD ids i 0) in omega arith))
+    (puts-below (λ i. number (getD buffer i 0) ∷ []) 21 (min len (length buffer)) (λ i l. let n = number-length (getD buffer i 0) in omega arith))
 
 -- a table, by what the lent slices have
 pub table-puts : (t : Table) → Puts (65 + length (t .slots .keys) * 366 + length (t .records) * 90) (tableLines t)
@@ -157,23 +170,34 @@ table-puts t =
     (fields-length i t))))
     (puts-below (λ i. recordLine (getD (t .records) i 0)) 90 m (λ i l. record-total (getD (t .records) i 0))))
 
--- what an answer has beyond its status
-tail-puts : (tail : Tail) (ids fields : List ℕ) → fits tail → Puts (279 + length ids * 21) (tailOf tail ids fields)
-tail-puts Nothing ids fields h = puts-most 0 _ (λ s. s) (omega arith) puts-nothing
-tail-puts (Scene time at len) ids fields h =
-    let l = length-take len (drop (at * stride + 1) fields) in
-    puts-most 279 _ (tailOf (Scene time at len) ids fields) (omega arith) (scene-puts time (sceneBytes at len fields) (omega (arith, h .1)))
-tail-puts (Ids remaining len) ids fields h =
-    puts-most (21 + min len (length ids) * 21) _ (tailOf (Ids remaining len) ids fields) (omega arith) (list-puts remaining ids len)
-tail-puts NoRow ids fields h = puts-text _ (32 ∷ 110 ∷ 111 ∷ 110 ∷ 101 ∷ []) (omega arith)
-tail-puts (Info row) ids fields h = puts-most 107 _ (tailOf (Info row) ids fields) (omega arith) (row-puts row)
+-- the most that an answer has beyond its status: a list of 1,024 ids, or an image of all that the buffer holds
+abbrev pub tailMost : List ℕ → ℕ
+tailMost buffer = 21525 + length buffer * 2
 
-pub answer-puts : (trace : Bool) (letter : ℕ) (a : Answer) (ids fields : List ℕ) → fits (a .tail)
-    → Puts (349 + length ids * 21) (answerLine trace letter a ids fields)
+tail-puts : (tail : Tail) (buffer fields : List ℕ) → fits tail → Puts (tailMost buffer) (tailOf tail buffer fields)
+tail-puts Nothing buffer fields h = puts-most 0 _ (λ s. s) (omega arith) puts-nothing
+tail-puts (Scene time at len) buffer fields h =
+    let l = length-take len (drop (at * stride + 1) fields) in
+    puts-most 279 _ (tailOf (Scene time at len) buffer fields) (omega arith) (scene-puts time (sceneBytes at len fields) (omega (arith, h .1)))
+tail-puts (Ids remaining len) buffer fields h =
+    puts-most (21 + min len (length buffer) * 21) _ (tailOf (Ids remaining len) buffer fields) (omega (arith, h)) (list-puts remaining buffer len)
+tail-puts NoRow buffer fields h = puts-text _ (32 ∷ 110 ∷ 111 ∷ 110 ∷ 101 ∷ []) (omega arith)
+tail-puts (Info row) buffer fields h = puts-most 107 _ (tailOf (Info row) buffer fields) (omega arith) (row-puts row)
+tail-puts (Image len) buffer fields h =
+    let b = bytes-length (take len buffer) in
+    let l = length-take len buffer in
+    puts-text _ (spaced (bytesText (take len buffer))) (omega arith)
+
+-- an answer has at most this
+abbrev pub answerMost : List ℕ → ℕ
+answerMost buffer = 71 + tailMost buffer
+
+pub answer-puts : (trace : Bool) (letter : ℕ) (a : Answer) (buffer fields : List ℕ) → fits (a .tail)
+    → Puts (answerMost buffer) (answerLine trace letter a buffer fields)
 unfolding answerLine
-answer-puts trace letter a ids fields h =
-    puts-most (69 + (279 + length ids * 21) + 1) _ (answerLine trace letter a ids fields) (omega arith)
-    (puts-then (69 + (279 + length ids * 21)) 1 (λ s. tailOf (a .tail) ids fields (writes (headTexts trace letter a) s)) (puts newline)
-    (puts-then 69 (279 + length ids * 21) (writes (headTexts trace letter a)) (tailOf (a .tail) ids fields)
-    (head-puts trace letter a) (tail-puts (a .tail) ids fields h))
+answer-puts trace letter a buffer fields h =
+    puts-most (70 + tailMost buffer + 1) _ (answerLine trace letter a buffer fields) (omega arith)
+    (puts-then (70 + tailMost buffer) 1 (λ s. tailOf (a .tail) buffer fields (writes (headTexts trace letter a) s)) (puts newline)
+    (puts-then 70 (tailMost buffer) (writes (headTexts trace letter a)) (tailOf (a .tail) buffer fields)
+    (head-puts trace letter a) (tail-puts (a .tail) buffer fields h))
     (puts-text 1 newline (omega arith)))

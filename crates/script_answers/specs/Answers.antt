@@ -6,7 +6,7 @@ use lib.ListN.{length, getD, take, drop}
 use Rattle.words.specs.Constants.{maxScenes, maxFields, stride}
 use Rattle.script_answers.specs.declared.Row.{Row}
 use Rattle.script_answers.specs.declared.Tail.{Tail}
-use Rattle.script_answers.specs.declared.Tail.the-variants.{Nothing, Scene, Ids, NoRow, Info}
+use Rattle.script_answers.specs.declared.Tail.the-variants.{Nothing, Scene, Ids, NoRow, Info, Image}
 use Rattle.script_answers.specs.declared.Answer.{Answer}
 use Rattle.text_output.specs.Writing.{Sheet, puts, writes, writesBelow, newline, number, spaced, flagText, bytesText, statusText}
 
@@ -45,28 +45,34 @@ sceneTexts time fields = number time ∷ spaced (bytesText fields) ∷ []
 
 -- the remaining capacity and the first ids of a list
 abbrev pub listTexts : ℕ → List ℕ → ℕ → Sheet → Sheet
-listTexts remaining ids len s = writesBelow (λ i. number (getD ids i 0) ∷ []) (min len (length ids)) (puts (number remaining) s)
+listTexts remaining buffer len s = writesBelow (λ i. number (getD buffer i 0) ∷ []) (min len (length buffer)) (puts (number remaining) s)
 
 -- the field bytes of the scene at a position, of a length
 abbrev pub sceneBytes : ℕ → ℕ → List ℕ → List ℕ
 sceneBytes at len fields = take len (drop (at * stride + 1) fields)
 
--- what an answer has beyond its status: nothing, a scene, a list, ` none`, or an info row
-abbrev pub tailOf : Tail → List ℕ → List ℕ → Sheet → Sheet
-tailOf Nothing ids fields s = s
-tailOf (Scene time at len) ids fields s = writes (sceneTexts time (sceneBytes at len fields)) s
-tailOf (Ids remaining len) ids fields s = listTexts remaining ids len s
-tailOf NoRow ids fields s = puts (32 ∷ 110 ∷ 111 ∷ 110 ∷ 101 ∷ []) s
-tailOf (Info row) ids fields s = writes (rowTexts row) s
+-- the image in the buffer's front
+abbrev pub imageText : List ℕ → ℕ → List ℕ
+imageText buffer len = spaced (bytesText (take len buffer))
 
--- a scene's position and length are those that an entry can have
+-- what an answer has beyond its status: nothing, a scene, a list, ` none`, an info row, or an image
+abbrev pub tailOf : Tail → List ℕ → List ℕ → Sheet → Sheet
+tailOf Nothing buffer fields s = s
+tailOf (Scene time at len) buffer fields s = writes (sceneTexts time (sceneBytes at len fields)) s
+tailOf (Ids remaining len) buffer fields s = listTexts remaining buffer len s
+tailOf NoRow buffer fields s = puts (32 ∷ 110 ∷ 111 ∷ 110 ∷ 101 ∷ []) s
+tailOf (Info row) buffer fields s = writes (rowTexts row) s
+tailOf (Image len) buffer fields s = puts (imageText buffer len) s
+
+-- a scene's position and length are those that an entry can have, and a list has no more ids than a table has entries
 abbrev pub fits : Tail → Type 0
 fits Nothing = Unit
 fits (Scene time at len) = (at ≤ maxScenes) × (len ≤ maxFields)
-fits (Ids remaining len) = Unit
+fits (Ids remaining len) = len ≤ maxScenes
 fits NoRow = Unit
 fits (Info row) = Unit
+fits (Image len) = Unit
 
--- a line: the head and the tail, with the list buffer and the fields that the call left
+-- a line: the head and the tail, with the buffer and the fields that the call left
 unfoldable pub answerLine : Bool → ℕ → Answer → List ℕ → List ℕ → Sheet → Sheet
-answerLine trace letter a ids fields s = puts newline (tailOf (a .tail) ids fields (writes (headTexts trace letter a) s))
+answerLine trace letter a buffer fields s = puts newline (tailOf (a .tail) buffer fields (writes (headTexts trace letter a) s))

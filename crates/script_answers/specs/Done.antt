@@ -1,7 +1,8 @@
--- What a call answers: an answer with the table that it leaves, and with the list buffer.
+-- What a call answers: an answer with the table that it leaves, and with the buffer of lists and images.
 use Prim.Native.Nat.{ℕ}
 use mathlib.Core.Bool.{Bool, false}
-use mathlib.Core.List.{List}
+use mathlib.Core.List.{List, _++_}
+use lib.ListN.{take, drop}
 use Rattle.state.specs.Table.{Table}
 use Rattle.state.specs.Answer.{Result}
 use Rattle.script_answers.specs.declared.Tail.{Tail}
@@ -29,10 +30,14 @@ plain r = record { status = r .status; save = r .save; tail = Nothing; table = r
 abbrev pub readOf : ℕ → Tail → Table → Done
 readOf status tail t = record { status = status; save = false; tail = tail; table = t }
 
--- an answer with the list buffer that it leaves
+-- an answer with the list and image buffer that it leaves
 pub record Called : Type 0 where
   pub done : Done
-  pub ids : List ℕ
+  pub buffer : List ℕ
 
 abbrev pub calledOf : Done → List ℕ → Called
-calledOf d ids = record { done = d; ids = ids }
+calledOf d buffer = record { done = d; buffer = buffer }
+
+-- a call that is lent the front of the buffer, up to a length, or all of it; the rest stays
+abbrev pub inFront : ℕ → (List ℕ → Called) → List ℕ → Called
+inFront n f buffer = let c : Called = f (take n buffer) in calledOf (c .done) (c .buffer ++ drop n buffer)

@@ -18,7 +18,7 @@ ghost use Prim.Native.Nat.{min, _≤_};
 ghost use lib.ListN.{length, getD};
 ghost use Rattle.words.specs.Constants.{maxScenes};
 ghost use Rattle.text_output.specs.Writing.{sheet, puts, writes, writesBelow, number};
-ghost use Rattle.script_answers.specs.Answers.{sizeWord, sizeLine, headTexts, rowTexts, sceneBytes, sceneTexts, listTexts, fits, tailOf, answerLine};
+ghost use Rattle.script_answers.specs.Answers.{sizeWord, sizeLine, headTexts, rowTexts, sceneBytes, sceneTexts, listTexts, imageText, fits, tailOf, answerLine};
 
 // `N` in a trace, else `scenes`.
 fn put_size_word(out: &mut [u8], at: usize, trace: bool) -> usize
@@ -51,16 +51,16 @@ fn put_row(out: &mut [u8], at: usize, row: Row) -> usize
 }
 
 // The first ids of a list, each behind a blank.
-fn put_ids(out: &mut [u8], at: usize, ids: &[u8], len: usize) -> usize
+fn put_ids(out: &mut [u8], at: usize, buffer: &[u8], len: usize) -> usize
     ensures { λ r.
-        let listed = now (ids .entry) in
+        let listed = now (buffer .entry) in
         ⌜ sheet (now (out .exit)) r ≡ writesBelow (λ i. number (getD listed i 0) ∷ []) (min len (length listed)) (sheet (now (out .entry)) at) ⌝ }
 {
-    let n = least(len, ids.len());
+    let n = least(len, buffer.len());
     let mut next = at;
     let mut i = 0;
     while i < n {
-        next = put_number(out, next, ids[i] as u64);
+        next = put_number(out, next, buffer[i] as u64);
         i += 1;
     }
     next
@@ -85,25 +85,33 @@ fn put_scene(
     put_bytes(out, next, part(fields, start, len))
 }
 
-// The remaining capacity and a list of ids.
-fn put_list(out: &mut [u8], at: usize, remaining: u8, ids: &[u8], len: usize) -> usize
-    ensures { λ r. ⌜ sheet (now (out .exit)) r ≡ listTexts remaining (now (ids .entry)) len (sheet (now (out .entry)) at) ⌝ }
+// The remaining capacity and a list of buffer.
+fn put_list(out: &mut [u8], at: usize, remaining: u8, buffer: &[u8], len: usize) -> usize
+    ensures { λ r. ⌜ sheet (now (out .exit)) r ≡ listTexts remaining (now (buffer .entry)) len (sheet (now (out .entry)) at) ⌝ }
 {
     let next = put_number(out, at, remaining as u64);
-    put_ids(out, next, ids, len)
+    put_ids(out, next, buffer, len)
+}
+
+// The image in the front of the buffer.
+fn put_image(out: &mut [u8], at: usize, buffer: &[u8], len: usize) -> usize
+    ensures { λ r. ⌜ sheet (now (out .exit)) r ≡ puts (imageText (now (buffer .entry)) len) (sheet (now (out .entry)) at) ⌝ }
+{
+    put_bytes(out, at, part(buffer, 0, len))
 }
 
 // What an answer has beyond its status.
-fn put_tail(out: &mut [u8], at: usize, tail: Tail, fields: &[u8], ids: &[u8]) -> usize
+fn put_tail(out: &mut [u8], at: usize, tail: Tail, fields: &[u8], buffer: &[u8]) -> usize
     requires { ⌜ fits tail ⌝ }
-    ensures { λ r. ⌜ sheet (now (out .exit)) r ≡ tailOf tail (now (ids .entry)) (now (fields .entry)) (sheet (now (out .entry)) at) ⌝ }
+    ensures { λ r. ⌜ sheet (now (out .exit)) r ≡ tailOf tail (now (buffer .entry)) (now (fields .entry)) (sheet (now (out .entry)) at) ⌝ }
 {
     match tail {
         Tail::Nothing => at,
         Tail::Scene(time, position, len) => put_scene(out, at, time, position, len, fields),
-        Tail::Ids(remaining, len) => put_list(out, at, remaining, ids, len),
+        Tail::Ids(remaining, len) => put_list(out, at, remaining, buffer, len),
         Tail::NoRow => put_text(out, at, b" none"),
         Tail::Info(row) => put_row(out, at, row),
+        Tail::Image(len) => put_image(out, at, buffer, len),
     }
 }
 
@@ -132,15 +140,15 @@ pub fn put_answer(
     letter: u8,
     answer: Answer,
     fields: &[u8],
-    ids: &[u8],
+    buffer: &[u8],
 ) -> usize
     requires { ⌜ fits (answer .tail) ⌝ }
     ensures { λ r.
-        let line = answerLine trace letter answer (now (ids .entry)) (now (fields .entry)) in
+        let line = answerLine trace letter answer (now (buffer .entry)) (now (fields .entry)) in
         ⌜ sheet (now (out .exit)) r ≡ line (sheet (now (out .entry)) at) ⌝ }
 {
     let tail = answer.tail;
     let head = put_head(out, at, trace, letter, answer);
-    let end = put_tail(out, head, tail, fields, ids);
+    let end = put_tail(out, head, tail, fields, buffer);
     end_line(out, end)
 }

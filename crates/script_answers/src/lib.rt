@@ -20,13 +20,14 @@ pub struct Row {
 }
 
 // What an answer has beyond its status: nothing, the time, position and length of a scene, the remaining capacity and the count of a
-// list, or an info read with or without a row.
+// list, an info read with or without a row, or the length of an image.
 pub enum Tail {
     Nothing,
     Scene(u32, usize, usize),
     Ids(u8, usize),
     NoRow,
     Info(Row),
+    Image(usize),
 }
 
 // An answer, with the head that it leaves.

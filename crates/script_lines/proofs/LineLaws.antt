@@ -62,7 +62,8 @@ word-says trace Size w rest = numeral-says Size refl (numberOf (mostScenes trace
 word-says trace Digits w rest = spelling-says Digits refl (orDash w (digitBytes w)) w rest
 word-says trace Hex w rest = spelling-says Hex refl (orDash w (hexPairs w)) w rest
 word-says trace Override w rest = numeral-says Override refl (overrideOf w) w rest
-word-says trace Length w rest = numeral-says Length refl (cond (eqb (length w) 0) (word.Value 1024) (numberOf 1024 w)) w rest
+word-says trace (Length most) w rest =
+    numeral-says (Length most) refl (cond (eqb (length w) 0) (word.Value most) (numberOf most w)) w rest
 
 isValue : Word → Bool
 isValue (word.Value n) = true
@@ -331,9 +332,11 @@ all-ten letter =
     (ten-cond (eqb letter 84) ten-list
     (ten-cond (eqb letter 70) ten-list
     (ten-cond (eqb letter 75) ten-list
+    (ten-cond (eqb letter 80) ten-list
+    (ten-cond (eqb letter 71) ten-list
     (ten-cond (eqb letter 101) ten-list
     (ten-cond (eqb letter 114) ten-list
-    ten-list)))))))))))))))
+    ten-list)))))))))))))))))
 
 pub kinds-length : (letter : ℕ) → length (kindsOf letter) ≡ 10
 kinds-length letter = all-ten letter .ten

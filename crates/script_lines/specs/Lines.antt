@@ -25,11 +25,15 @@ unfoldable pub oneOf : ℕ → List ℕ → Bool
 oneOf letter [] = false
 oneOf letter (l ∷ ls) = cond (eqb letter l) true (oneOf letter ls)
 
--- N A S V are of both programs; R X C L M I T F Z U W E D K e r of scenetrace alone
+-- N A S V are of both programs; R X C L M I T F Z U W E D K e r P G of scenetrace alone
 unfoldable pub known : ℕ → Bool → Bool
 known letter trace =
     cond (oneOf letter (78 ∷ 65 ∷ 83 ∷ 86 ∷ [])) true
-    (cond trace (oneOf letter (82 ∷ 88 ∷ 67 ∷ 76 ∷ 77 ∷ 73 ∷ 84 ∷ 70 ∷ 90 ∷ 85 ∷ 87 ∷ 69 ∷ 68 ∷ 75 ∷ 101 ∷ 114 ∷ [])) false)
+    (cond trace (oneOf letter (82 ∷ 88 ∷ 67 ∷ 76 ∷ 77 ∷ 73 ∷ 84 ∷ 70 ∷ 90 ∷ 85 ∷ 87 ∷ 69 ∷ 68 ∷ 75 ∷ 101 ∷ 114 ∷ 80 ∷ 71 ∷ [])) false)
+
+-- the image buffer: as long as the image of 1,024 scenes can be
+abbrev pub mostImage : ℕ
+mostImage = 175112
 
 -- the kinds of the four words of a scene, and of up to four words behind them
 abbrev pub sceneAnd : Kind → Kind → Kind → Kind → List Kind
@@ -46,14 +50,16 @@ kindsOf letter =
     (cond (eqb letter 88) (Byte ∷ Short ∷ Short ∷ Member ∷ End ∷ End ∷ End ∷ End ∷ End ∷ End ∷ [])
     (cond (eqb letter 67) (Byte ∷ Short ∷ Byte ∷ Short ∷ Byte ∷ Short ∷ Byte ∷ Member ∷ Member ∷ End ∷ [])
     (cond (eqb letter 76) (sceneAnd Member Override Flag End)
-    (cond (eqb letter 77) (Byte ∷ Short ∷ Short ∷ Member ∷ Length ∷ End ∷ End ∷ End ∷ End ∷ End ∷ [])
+    (cond (eqb letter 77) (Byte ∷ Short ∷ Short ∷ Member ∷ Length 1024 ∷ End ∷ End ∷ End ∷ End ∷ End ∷ [])
     (cond (eqb letter 73) (Byte ∷ Short ∷ Flag ∷ End ∷ End ∷ End ∷ End ∷ End ∷ End ∷ End ∷ [])
     (cond (eqb letter 84) (Short ∷ End ∷ End ∷ End ∷ End ∷ End ∷ End ∷ End ∷ End ∷ End ∷ [])
     (cond (eqb letter 70) (Byte ∷ End ∷ End ∷ End ∷ End ∷ End ∷ End ∷ End ∷ End ∷ End ∷ [])
     (cond (eqb letter 75) (Long ∷ End ∷ End ∷ End ∷ End ∷ End ∷ End ∷ End ∷ End ∷ End ∷ [])
+    (cond (eqb letter 80) (Length mostImage ∷ End ∷ End ∷ End ∷ End ∷ End ∷ End ∷ End ∷ End ∷ End ∷ [])
+    (cond (eqb letter 71) (Hex ∷ End ∷ End ∷ End ∷ End ∷ End ∷ End ∷ End ∷ End ∷ End ∷ [])
     (cond (eqb letter 101) (sceneAnd Long Hex End End)
     (cond (eqb letter 114) (sceneAnd Flag End End End)
-    (End ∷ End ∷ End ∷ End ∷ End ∷ End ∷ End ∷ End ∷ End ∷ End ∷ [])))))))))))))))
+    (End ∷ End ∷ End ∷ End ∷ End ∷ End ∷ End ∷ End ∷ End ∷ End ∷ [])))))))))))))))))
 
 -- ---- a word
 
@@ -93,9 +99,9 @@ spells Size = false
 spells Digits = true
 spells Hex = true
 spells Override = false
-spells Length = false
+spells (Length most) = false
 
--- what a word of a kind says; a missing length is 1,024
+-- what a word of a kind says; a missing length is the most
 abbrev pub wordSays : Bool → Kind → List ℕ → Meaning
 wordSays trace End w = numeral (cond (eqb (length w) 0) (word.Value 0) (word.Wrong reason.TooMany))
 wordSays trace Byte w = numeral (numberOf 255 w)
@@ -107,7 +113,7 @@ wordSays trace Size w = numeral (numberOf (mostScenes trace) w)
 wordSays trace Digits w = spelling (orDash w (digitBytes w))
 wordSays trace Hex w = spelling (orDash w (hexPairs w))
 wordSays trace Override w = numeral (overrideOf w)
-wordSays trace Length w = numeral (cond (eqb (length w) 0) (word.Value 1024) (numberOf 1024 w))
+wordSays trace (Length most) w = numeral (cond (eqb (length w) 0) (word.Value most) (numberOf most w))
 
 -- what the reader answers: a number, or how many bytes the word spells
 abbrev pub wordAnswer : Meaning → Word

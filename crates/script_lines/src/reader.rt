@@ -31,8 +31,8 @@ enum Kind {
     Hex,
     // A transition time, or `-` or `null` for none.
     Override,
-    // The length of a scene list buffer, which may be missing.
-    Length,
+    // The length of a buffer, at most so much; so much if it is missing.
+    Length(u64),
 }
 
 pub struct Bounds;
@@ -45,6 +45,9 @@ impl Bounds {
 
     // The scene list buffer.
     pub const LIST: u64 = 1024;
+
+    // The image buffer: as long as the image of 1,024 scenes can be.
+    pub const IMAGE: u64 = 175_112;
 
     // What stands for no override: no time is so large.
     pub const STORED: u64 = 0x1_0000_0000;
@@ -98,7 +101,8 @@ fn kinds_of(letter: u8) -> [Kind; 10]
     let long = Kind::Long;
     let member = Kind::Member;
     let flag = Kind::Flag;
-    let list = Kind::Length;
+    let list = Kind::Length(Bounds::LIST);
+    let image = Kind::Length(Bounds::IMAGE);
     match letter {
         b'N' => [Kind::Size, end, end, end, end, end, end, end, end, end],
         b'A' => scene_and(long, member, Kind::Digits, Kind::Hex),
@@ -123,6 +127,8 @@ fn kinds_of(letter: u8) -> [Kind; 10]
         b'T' => [short, end, end, end, end, end, end, end, end, end],
         b'F' => [byte, end, end, end, end, end, end, end, end, end],
         b'K' => [long, end, end, end, end, end, end, end, end, end],
+        b'P' => [image, end, end, end, end, end, end, end, end, end],
+        b'G' => [Kind::Hex, end, end, end, end, end, end, end, end, end],
         b'e' => scene_and(long, Kind::Hex, end, end),
         b'r' => scene_and(flag, end, end, end),
         _ => [end, end, end, end, end, end, end, end, end, end],
@@ -151,7 +157,7 @@ fn is_known(letter: u8, trace: bool) -> bool
         return true;
     }
     if trace {
-        return one_of(letter, b"RXCLMITFZUWEDKer");
+        return one_of(letter, b"RXCLMITFZUWEDKerPG");
     }
     false
 }
@@ -199,11 +205,11 @@ fn read_word(word: &mut [u8], kind: Kind, trace: bool) -> Word
         Kind::Digits => digits(word),
         Kind::Hex => hex(word),
         Kind::Override => transition(word),
-        Kind::Length => {
+        Kind::Length(most) => {
             if word.len() == 0 {
-                return Word::Value(Bounds::LIST);
+                return Word::Value(most);
             }
-            number(word, Bounds::LIST)
+            number(word, most)
         }
     }
 }

@@ -1,13 +1,10 @@
 -- The laws that take what a read of the table ensures to the definition of its letter. Assumes nothing.
-use Prim.Native.Nat.{ℕ, _≤_, min}
+use Prim.Native.Nat.{ℕ}
 use mathlib.Core.Path.{_≡_, refl, sym, ap, _∙_}
 use mathlib.Core.Bool.{Bool, true, false, cond}
-use mathlib.Core.List.{List, _++_}
-use native.Mathlib.Omega.{arith}
-use lib.Dec.{eqb, ltb, leb}
-use lib.ListN.{length, take, drop, drop-of-length-le}
-use lib.Seq.{take-all}
-use borrow.Author.Tests.{leb-true, leb-false}
+use mathlib.Core.List.{List}
+use lib.Dec.{eqb, ltb}
+use lib.ListN.{length}
 use Rattle.words.specs.Constants.{success}
 use Rattle.words.specs.declared.Found.{Found}
 use Rattle.words.specs.declared.SceneKey.{SceneKey}
@@ -24,10 +21,9 @@ use Rattle.state.specs.Table.{Table, tableOf}
 use Rattle.state.specs.Change.{findScene}
 use Rattle.state.specs.Answer.{Result, resultOf, guarded}
 use Rattle.reads.specs.Reads.{readAt, viewScene, Listed, listedOf, listIds, getSceneMembership, infoRow, readFabricSceneInfo}
-use Rattle.script_lines.specs.Values.{valueAt}
 use Rattle.script_answers.specs.declared.Tail.{Tail}
 use Rattle.script_answers.specs.Done.{Done, doneOf, readOf, calledOf}
-use Rattle.script_reads.specs.Reads.{sceneTail, viewed, recalled, infoTail, informed, listTail, listed, list, listIn}
+use Rattle.script_reads.specs.Reads.{sceneTail, viewed, recalled, infoTail, informed, listTail, listed}
 use Rattle.words.specs.declared.Found.the-variants as finding
 
 -- ---- a read leaves the head as it was
@@ -50,13 +46,13 @@ view-state : (key : SceneKey) (m : Membership) (t : Table) → viewScene key m t
 unfolding viewScene
 view-state key m t = guarded-at (λ (r : SceneRead). r .state) (t .state) _ _ _ (λ k. refl) (read-state t Stored (findScene key t))
 
-ids-state : (l : List ℕ) (n : ℕ) (ids : List ℕ) (t : Table) → listIds l n ids t .read .state ≡ t .state
+buffer-state : (l : List ℕ) (n : ℕ) (buffer : List ℕ) (t : Table) → listIds l n buffer t .read .state ≡ t .state
 unfolding listIds
-ids-state l n ids t = cond-at (λ (r : Listed). r .read .state) (t .state) (ltb (length ids) (length l)) _ _ refl refl
+buffer-state l n buffer t = cond-at (λ (r : Listed). r .read .state) (t .state) (ltb (length buffer) (length l)) _ _ refl refl
 
-list-state : (key : GroupKey) (m : Membership) (ids : List ℕ) (t : Table) → getSceneMembership key m ids t .read .state ≡ t .state
+list-state : (key : GroupKey) (m : Membership) (buffer : List ℕ) (t : Table) → getSceneMembership key m buffer t .read .state ≡ t .state
 unfolding getSceneMembership
-list-state key m ids t = guarded-at (λ (r : Listed). r .read .state) (t .state) _ _ _ (λ k. refl) (ids-state _ _ ids t)
+list-state key m buffer t = guarded-at (λ (r : Listed). r .read .state) (t .state) _ _ _ (λ k. refl) (buffer-state _ _ buffer t)
 
 row-state : (x : Found) (fabric n : ℕ) (t : Table) → infoRow x fabric n t .state ≡ t .state
 unfolding infoRow
@@ -100,36 +96,10 @@ module _ (k tm f w : List ℕ) where
         read-done (ap (λ (r : InfoRead). r .status) p) (e ∙ ap infoTail p)
         (ap (λ (r : InfoRead). r .state) p ∙ info-state fabric endpoint single came)
 
-    pub listed-done : (tail : Tail) (l : ListRead) (after : List ℕ) (key : GroupKey) (m : Membership) (ids : List ℕ)
-        → tail ≡ listTail l → listedOf l after ≡ getSceneMembership key m ids came
-        → calledOf (readOf (l .status) tail (tableOf (l .state) k tm f w)) after ≡ listed (getSceneMembership key m ids came) came
-    listed-done tail l after key m ids e p =
+    pub listed-done : (tail : Tail) (l : ListRead) (after : List ℕ) (key : GroupKey) (m : Membership) (buffer : List ℕ)
+        → tail ≡ listTail l → listedOf l after ≡ getSceneMembership key m buffer came
+        → calledOf (readOf (l .status) tail (tableOf (l .state) k tm f w)) after ≡ listed (getSceneMembership key m buffer came) came
+    listed-done tail l after key m buffer e p =
         let d = read-done (ap (λ (r : Listed). r .read .status) p) (e ∙ ap (λ (r : Listed). listTail (r .read)) p)
-        (ap (λ (r : Listed). r .read .state) p ∙ list-state key m ids came) in
+        (ap (λ (r : Listed). r .read .state) p ∙ list-state key m buffer came) in
         λ i. calledOf (d i) (p i .ids)
-
--- ---- the front of the list buffer
-
--- as many as there are are the first of all
-front-same : (m n : ℕ) (ids : List ℕ) → m ≡ min n (length ids) → (take m ids ≡ take n ids) × (drop m ids ≡ drop n ids)
-front-same m n ids h =
-    (elim (leb n (length ids)) as (λ b. leb n (length ids) ≡ b → (take m ids ≡ take n ids) × (drop m ids ≡ drop n ids)) [
-      | true ↦ λ e.
-          let l = leb-true n (length ids) e in
-          let q : m ≡ n = omega (arith, l, h) in
-          (ap (λ (k : ℕ). take k ids) q, ap (λ (k : ℕ). drop k ids) q)
-      | false ↦ λ e.
-          let l = leb-false n (length ids) e in
-          let p : length ids ≤ m = omega (arith, l, h) in
-          let q : length ids ≤ n = omega (arith, l) in
-          (take-all m ids p ∙ sym (take-all n ids q), drop-of-length-le ids p ∙ sym (drop-of-length-le ids q))
-    ]) refl
-
--- what a list in the front leaves, d and after, with the rest of the buffer behind it
-pub list-front : (values ids : List ℕ) (t : Table) (m : ℕ) (d : Done) (after : List ℕ) → m ≡ min (valueAt values 4) (length ids)
-    → calledOf d after ≡ list values (take m ids) t → calledOf d (after ++ drop m ids) ≡ listIn values ids t
-unfolding listIn
-list-front values ids t m d after h e =
-    let q = front-same m (valueAt values 4) ids h in
-    (λ i. calledOf (e i .done) (e i .ids ++ drop m ids))
-    ∙ (λ i. calledOf (list values (q .0 i) t .done) (list values (q .0 i) t .ids ++ q .1 i))

@@ -2,9 +2,8 @@
 -- numbers, `values`. Letters are in ASCII codes.
 use Prim.Native.Nat.{ℕ, _^_}
 use mathlib.Core.Bool.{cond}
-use mathlib.Core.List.{List, _++_}
+use mathlib.Core.List.{List}
 use lib.Dec.{eqb}
-use lib.ListN.{take, drop}
 use Rattle.words.specs.Constants.{success}
 use Rattle.requests.specs.Requests.{membershipOf}
 use Rattle.commands.specs.declared.Applied.{Applied}
@@ -20,7 +19,7 @@ use Rattle.reads.specs.Reads.{viewScene, recallLookup, Listed, getSceneMembersh
 use Rattle.script_lines.specs.Values.{byte, short, long, valueAt, sceneKey, groupKey}
 use Rattle.script_answers.specs.declared.Tail.{Tail}
 use Rattle.script_answers.specs.declared.Tail.the-variants.{Nothing, Scene, Ids, NoRow, Info}
-use Rattle.script_answers.specs.Done.{Done, readOf, Called, calledOf}
+use Rattle.script_answers.specs.Done.{Done, readOf, Called, calledOf, inFront}
 use Rattle.commands.specs.declared.Applied.the-variants as applying
 
 abbrev pub applied : ℕ → Applied
@@ -79,19 +78,16 @@ abbrev pub listed : Listed → Table → Called
 listed l t = calledOf (readOf (l .read .status) (listTail (l .read)) t) (l .ids)
 
 unfoldable pub list : List ℕ → List ℕ → Table → Called
-list values ids t = listed (getSceneMembership (groupKey values) (membershipOf (byte (valueAt values 3))) ids t) t
+list values buffer t = listed (getSceneMembership (groupKey values) (membershipOf (byte (valueAt values 3))) buffer t) t
 
 -- M: the front of the buffer that the line asks for, or all of it; the rest stays
 unfoldable pub listIn : List ℕ → List ℕ → Table → Called
-listIn values ids t =
-    let n : ℕ = valueAt values 4 in
-    let c : Called = list values (take n ids) t in
-    calledOf (c .done) (c .ids ++ drop n ids)
+listIn values buffer t = inFront (valueAt values 4) (λ b. list values b t) buffer
 
 -- by letter, I for any other
 unfoldable pub query : ℕ → List ℕ → List ℕ → Table → Called
-query letter values ids t =
-    cond (eqb letter 86) (calledOf (view values t) ids)
-    (cond (eqb letter 76) (calledOf (recall values t) ids)
-    (cond (eqb letter 77) (listIn values ids t)
-    (calledOf (info values t) ids)))
+query letter values buffer t =
+    cond (eqb letter 86) (calledOf (view values t) buffer)
+    (cond (eqb letter 76) (calledOf (recall values t) buffer)
+    (cond (eqb letter 77) (listIn values buffer t)
+    (calledOf (info values t) buffer)))

@@ -151,13 +151,13 @@ fn list(
     times: &[u32],
     fields: &[u8],
     records: &[u64],
-    ids: &mut [u8],
+    buffer: &mut [u8],
     read: Line,
 ) -> Answer
     ensures { λ r.
         let before = tableOf state (now (keys .entry)) (now (times .entry)) (now (fields .entry)) (now (records .entry)) in
         let after = tableOf (r .state) (now (keys .entry)) (now (times .entry)) (now (fields .entry)) (now (records .entry)) in
-        ⌜ calledOf (doneOf r after) (now (ids .exit)) ≡ list (read .values) (now (ids .entry)) before ⌝ }
+        ⌜ calledOf (doneOf r after) (now (buffer .exit)) ≡ list (read .values) (now (buffer .entry)) before ⌝ }
 {
     let key = group_key(read);
     let member = member(read.values[3]);
@@ -166,7 +166,7 @@ fn list(
         times,
         fields,
         records,
-        ids,
+        buffer,
         key,
         member,
     );
@@ -186,16 +186,16 @@ fn list_in(
     times: &[u32],
     fields: &[u8],
     records: &[u64],
-    ids: &mut [u8],
+    buffer: &mut [u8],
     read: Line,
 ) -> Answer
     ensures { λ r.
         let before = tableOf state (now (keys .entry)) (now (times .entry)) (now (fields .entry)) (now (records .entry)) in
         let after = tableOf (r .state) (now (keys .entry)) (now (times .entry)) (now (fields .entry)) (now (records .entry)) in
-        ⌜ calledOf (doneOf r after) (now (ids .exit)) ≡ listIn (read .values) (now (ids .entry)) before ⌝ }
+        ⌜ calledOf (doneOf r after) (now (buffer .exit)) ≡ listIn (read .values) (now (buffer .entry)) before ⌝ }
 {
-    let n = least(read.values[4] as usize, ids.len());
-    list(state, keys, times, fields, records, &mut ids[..n], read)
+    let n = least(read.values[4] as usize, buffer.len());
+    list(state, keys, times, fields, records, &mut buffer[..n], read)
 }
 
 // I: info.
@@ -240,19 +240,19 @@ pub fn query(
     times: &[u32],
     fields: &[u8],
     records: &mut [u64],
-    ids: &mut [u8],
+    buffer: &mut [u8],
     read: Line,
 ) -> Answer
     ensures { λ r.
         let before = tableOf state (now (keys .entry)) (now (times .entry)) (now (fields .entry)) (now (records .entry)) in
         let after = tableOf (r .state) (now (keys .entry)) (now (times .entry)) (now (fields .entry)) (now (records .exit)) in
-        ⌜ calledOf (doneOf r after) (now (ids .exit)) ≡ query (read .letter) (read .values) (now (ids .entry)) before ⌝ }
+        ⌜ calledOf (doneOf r after) (now (buffer .exit)) ≡ query (read .letter) (read .values) (now (buffer .entry)) before ⌝ }
 {
     let letter = read.letter;
     match letter {
         b'V' => view(state, keys, times, fields, records, read),
         b'L' => recall(state, keys, times, fields, records, read),
-        b'M' => list_in(state, keys, times, fields, records, ids, read),
+        b'M' => list_in(state, keys, times, fields, records, buffer, read),
         _ => info(state, keys, times, fields, records, read),
     }
 }

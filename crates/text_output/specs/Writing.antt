@@ -87,8 +87,8 @@ bytesText [] = 45 ∷ []
 bytesText (b ∷ bs) = hexText (b ∷ bs)
 
 unfoldable pub isFault : ℕ → Bool
-isFault s = ltb s 10 && ltb 0 s
+isFault s = ltb s 16 && ltb 0 s
 
--- a status in two hexadecimal digits, a fault as F and its digit
+-- a status in two hexadecimal digits, a fault as F and its number
 unfoldable pub statusText : ℕ → List ℕ
 statusText s = cond (isFault s) (70 ∷ decimal s) (hexByte s)

@@ -7,6 +7,9 @@ ghost use Prim.Native.Nat.{_%_};
 ghost use Rattle.text_output.specs.Writing.{sheet, putByte, puts, writes, decimal, spaced, flagText, hexDigit, hexByte, hexText, bytesText, isFault, statusText};
 ghost use Rattle.text_output.specs.Errors.{reasonText, errorLine};
 
+// No fault is so large, and no status but 0 is less.
+const FIRST_STATUS: u8 = 0x10;
+
 pub fn put(out: &mut [u8], at: usize, b: u8) -> usize
     ensures { λ r. ⌜ sheet (now (out .exit)) r ≡ putByte b (sheet (now (out .entry)) at) ⌝ }
 {
@@ -108,13 +111,13 @@ pub fn put_bytes(out: &mut [u8], at: usize, bytes: &[u8]) -> usize
 fn is_fault(status: u8) -> bool
     ensures { λ r. ⌜ r ≡ isFault status ⌝ }
 {
-    if status < 10 {
+    if status < FIRST_STATUS {
         return 0 < status;
     }
     false
 }
 
-// A status in two hexadecimal digits, a fault as F and its digit, behind a blank.
+// A status in two hexadecimal digits, a fault as F and its number, behind a blank.
 pub fn put_status(out: &mut [u8], at: usize, status: u8) -> usize
     ensures { λ r. ⌜ sheet (now (out .exit)) r ≡ puts (spaced (statusText status)) (sheet (now (out .entry)) at) ⌝ }
 {

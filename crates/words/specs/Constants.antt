@@ -44,9 +44,17 @@ unsound = 6
 abbrev pub badPair : ℕ
 badPair = 7
 
--- scene list buffer shorter than the list
-abbrev pub listTooLong : ℕ
-listTooLong = 8
+-- scene list buffer shorter than the list, or image buffer shorter than the image
+abbrev pub bufferTooShort : ℕ
+bufferTooShort = 8
+
+-- image that `from_tlv` refuses
+abbrev pub badImage : ℕ
+badImage = 9
+
+-- image with a repeated key, two records of one fabric, or scene 0 or 255
+abbrev pub clashingImage : ℕ
+clashingImage = 10
 
 -- pair bytes: the attribute is not scenable, or it is of a cluster that is not known
 abbrev pub notScenable : ℕ

@@ -36,7 +36,11 @@ impl Fault {
 
     pub const BAD_PAIR: u8 = 7;
 
-    pub const LIST_TOO_LONG: u8 = 8;
+    pub const BUFFER_TOO_SHORT: u8 = 8;
+
+    pub const BAD_IMAGE: u8 = 9;
+
+    pub const CLASHING_IMAGE: u8 = 10;
 }
 
 // Scene ids that no command may name.

@@ -11,7 +11,7 @@ abbrev ran : tie.After-chunk2 → tie.After-run
 ran c = c .before .before .before .before .before .before .before .before .before .before .before .before
 
 slice-aggregate-run : tie.Need-slice-aggregate-run
-slice-aggregate-run c = array-long 0x40000
+slice-aggregate-run c = array-long 0x60000
 
 slice-aggregate-run-2 : tie.Need-slice-aggregate-run-2
 slice-aggregate-run-2 c = array-long 0x10000

@@ -11,18 +11,18 @@ use Rattle.console.proofs.feed.Statement.{statement}
 use Rattle.console.proofs.feed.Tie as tie
 
 abbrev Inv-loop : tie.InvT-loop
-Inv-loop m₀ keys₀ times₀ fields₀ records₀ ids₀ line₀ before chunk out₀ held₀ from₀ at₀ takes₀ m keys times fields records ids line out held from at takes =
+Inv-loop m₀ keys₀ times₀ fields₀ records₀ buffer₀ line₀ before chunk out₀ held₀ from₀ at₀ takes₀ m keys times fields records buffer line out held from at takes =
     (length keys ≡ length keys₀)
     × (length times ≡ length times₀)
     × (length fields ≡ length fields₀)
     × (length records ≡ length records₀)
-    × (length ids ≡ length ids₀)
+    × (length buffer ≡ length buffer₀)
     × (length line ≡ length line₀)
     × (length out ≡ length out₀)
     × (at ≤ mostHeld)
 
 abbrev μ-loop : tie.MeasureT-loop
-μ-loop m₀ keys₀ times₀ fields₀ records₀ ids₀ line₀ before chunk out₀ held₀ from₀ at₀ takes₀ m keys times fields records ids line out held from at takes =
+μ-loop m₀ keys₀ times₀ fields₀ records₀ buffer₀ line₀ before chunk out₀ held₀ from₀ at₀ takes₀ m keys times fields records buffer line out held from at takes =
     length chunk - from
 
 -- the places that the proof refers to, each from a later one

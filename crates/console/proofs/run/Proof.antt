@@ -11,18 +11,18 @@ use Rattle.console.proofs.run.Statement.{statement}
 use Rattle.console.proofs.run.Tie as tie
 
 abbrev Inv-loop : tie.InvT-loop
-Inv-loop keys₀ times₀ fields₀ records₀ ids₀ line₀ chunk₀ room₀ m₀ held₀ more₀ failed₀ turns₀ keys times fields records ids line chunk room m held more failed turns =
+Inv-loop keys₀ times₀ fields₀ records₀ buffer₀ line₀ chunk₀ room₀ m₀ held₀ more₀ failed₀ turns₀ keys times fields records buffer line chunk room m held more failed turns =
     (length keys ≡ length keys₀)
     × (length times ≡ length times₀)
     × (length fields ≡ length fields₀)
     × (length records ≡ length records₀)
-    × (length ids ≡ length ids₀)
+    × (length buffer ≡ length buffer₀)
     × (length line ≡ length line₀)
     × (length chunk ≡ length chunk₀)
     × (mostHeld + longest ≤ length room)
 
 abbrev μ-loop : tie.MeasureT-loop
-μ-loop keys₀ times₀ fields₀ records₀ ids₀ line₀ chunk₀ room₀ m₀ held₀ more₀ failed₀ turns₀ keys times fields records ids line chunk room m held more failed turns =
+μ-loop keys₀ times₀ fields₀ records₀ buffer₀ line₀ chunk₀ room₀ m₀ held₀ more₀ failed₀ turns₀ keys times fields records buffer line chunk room m held more failed turns =
     turns
 
 -- the places that the proof refers to, each from a later one

@@ -38,7 +38,7 @@ returns c =
     let s = start (fits d .before) in
     let a = s .args in
     let p = s .pre in
-    ran-whole (a .machine) (a .keys .now) (a .times .now) (a .fields .now) (a .records .now) (a .ids .now) (a .line .now) (a .held)
+    ran-whole (a .machine) (a .keys .now) (a .times .now) (a .fields .now) (a .records .now) (a .buffer .now) (a .line .now) (a .held)
     (a .out .now) (a .at) _ _
     {s = left (ran c)} (d .run-line .ensures) refl (omega (arith, d .run-line .kept .1 .1 .1 .1 .1 .0, p .1 .1 .0)) (fits d .if1 .taken)
     (p .0) (p .1 .0) (p .1 .1 .1)
@@ -48,7 +48,7 @@ returns-2 c =
     let d = c .before .before in
     let s = start (over d .before) in
     let a = s .args in
-    too-long-whole (a .machine) (a .keys .now) (a .times .now) (a .fields .now) (a .records .now) (a .ids .now) (a .line .now) (a .held)
+    too-long-whole (a .machine) (a .keys .now) (a .times .now) (a .fields .now) (a .records .now) (a .buffer .now) (a .line .now) (a .held)
     (a .out .now) (a .at) _ _
     (over d .if1 .left) (s .pre .1 .1 .1) (d .too-long .ensures .output)
 

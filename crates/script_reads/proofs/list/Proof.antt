@@ -31,8 +31,8 @@ returns c =
     let m = member (call c) in
     let s = start (key m) in
     listed-done _ _ _ _ (s .args .state) _ (call c .get-scene-membership .result) _ _ _ _ (c .list-tail .ensures)
-    (_∙_ {b = getSceneMembership (key m .group-key .result) (m .member .result) (s .args .ids .now) (came s)} (call c .get-scene-membership .ensures)
-    (λ i. getSceneMembership (key m .group-key .ensures i) (m .member .ensures i) (s .args .ids .now) (came s)))
+    (_∙_ {b = getSceneMembership (key m .group-key .result) (m .member .result) (s .args .buffer .now) (came s)} (call c .get-scene-membership .ensures)
+    (λ i. getSceneMembership (key m .group-key .ensures i) (m .member .ensures i) (s .args .buffer .now) (came s)))
 
 pub list-spec : {M : Type 1} → statement M
 list-spec =

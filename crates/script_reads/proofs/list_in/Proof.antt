@@ -4,7 +4,9 @@ use lib.Seq.{length-take-le}
 use Rattle.state.specs.declared.ScenesState.{ScenesState}
 use Rattle.state.specs.Table.{Table, tableOf}
 use Rattle.script_answers.specs.Done.{doneOf}
-use Rattle.script_reads.proofs.ReadLaws.{list-front}
+use Rattle.script_answers.proofs.DoneLaws.{in-front}
+use Rattle.script_lines.specs.Values.{valueAt}
+use Rattle.script_reads.specs.Reads.{list, listIn}
 use borrow.Author.Needs.{needs}
 use Rattle.script_reads.proofs.list_in.Statement.{statement}
 use Rattle.script_reads.proofs.list_in.Tie as tie
@@ -27,12 +29,13 @@ slice-aggregate-list : tie.Need-slice-aggregate-list
 slice-aggregate-list c = sym (length-take-le _ _ (search needs))
 
 returns : tie.Need-returns
+unfolding listIn
 returns c =
     let n = front (call c) in
     let a = start n .args in
     let r = call c .list .result in
-    list-front (a .t7 .values) (a .ids .now) (came (start n) (a .state)) _ (doneOf r (came (start n) (r .state))) _
-    (n .least .ensures) (call c .list .ensures)
+    in-front (λ b. list (a .t7 .values) b (came (start n) (a .state))) (valueAt (a .t7 .values) 4) (a .buffer .now) _
+    (doneOf r (came (start n) (r .state))) _ (n .least .ensures) (call c .list .ensures)
 
 pub list-in-spec : {M : Type 1} → statement M
 list-in-spec =

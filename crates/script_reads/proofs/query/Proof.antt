@@ -30,13 +30,13 @@ at-info c = c .before .before
 
 returns : tie.Need-returns
 unfolding query
-returns c = rw (at-view c .match .keys1) (λ i. calledOf (c .view .ensures i) (start (at-view c .before) .args .ids .now))
+returns c = rw (at-view c .match .keys1) (λ i. calledOf (c .view .ensures i) (start (at-view c .before) .args .buffer .now))
 
 returns-2 : tie.Need-returns-2
 unfolding query
 returns-2 c =
     let m = at-recall (recalled c) in
-    rw (m .match .keys2) (λ i. calledOf (recalled c .recall .ensures i) (start (m .before) .args .ids .now))
+    rw (m .match .keys2) (λ i. calledOf (recalled c .recall .ensures i) (start (m .before) .args .buffer .now))
 
 returns-3 : tie.Need-returns-3
 unfolding query
@@ -47,7 +47,7 @@ unfolding query
 returns-4 c =
     let no = at-info c .match .rest in
     rw (ne-eqb _ _ (no .0 .0 .1), ne-eqb _ _ (no .0 .1), ne-eqb _ _ (no .1))
-    (λ i. calledOf (c .info .ensures i) (start (at-info c .before) .args .ids .now))
+    (λ i. calledOf (c .info .ensures i) (start (at-info c .before) .args .buffer .now))
 
 pub query-spec : {M : Type 1} → statement M
 query-spec =

@@ -8,7 +8,7 @@ use lib.Dec.{leb}
 use lib.ListN.{length}
 use borrow.Author.Needs.{needs}
 use borrow.Author.Tests.{lt-ltb, le-ltb, leb-true, leb-false}
-use Rattle.words.specs.Constants.{success, listTooLong}
+use Rattle.words.specs.Constants.{success, bufferTooShort}
 use Rattle.words.specs.declared.GroupKey.{GroupKey}
 use Rattle.words.specs.declared.KeyRange.the-variants.{Group}
 use Rattle.requests.specs.Requests.{groupGate}
@@ -65,7 +65,7 @@ module _ (key : GroupKey) (t : Table) {most : ℕ} {b : Bool} (e : b ≡ leb (co
   too-long : b ≡ false → most < length (sceneIds key t)
   too-long h = let l = leb-false (countKeys (t .slots .keys) (t .state .entries) (Group key)) most (sym e ∙ h) in omega (arith, size-of key t)
 
-list-long : (l : List ℕ) (left : ℕ) (buffer : List ℕ) (t : Table) → length buffer < length l → unlisted buffer t listTooLong ≡ listIds l left buffer t
+list-long : (l : List ℕ) (left : ℕ) (buffer : List ℕ) (t : Table) → length buffer < length l → unlisted buffer t bufferTooShort ≡ listIds l left buffer t
 unfolding listIds
 list-long l left buffer t h = rw (lt-ltb (length buffer) (length l) h)
 

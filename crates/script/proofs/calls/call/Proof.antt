@@ -37,22 +37,34 @@ is-write c = c .before .before .before .before .before
 abbrev wrote : tie.After-slice-known15 → tie.After-host-write
 wrote c = c .before .before .before .before .before .before .before .before
 
-abbrev is-event : tie.After-event → tie.Else3
+abbrev tried-three : tie.After-one-of4 → tie.Else3
+tried-three c = c .before .before
+
+abbrev is-image : tie.After-image → tie.Then4
+is-image c = c .before .before .before .before .before .before
+
+abbrev imaged : tie.After-slice-known20 → tie.After-image
+imaged c = c .before .before .before .before .before .before .before .before .before .before
+
+abbrev is-event : tie.After-event → tie.Else4
 is-event c = c .before .before .before .before .before
 
-abbrev happened : tie.After-slice-known19 → tie.After-event
+abbrev happened : tie.After-slice-known24 → tie.After-event
 happened c = c .before .before .before .before .before .before .before .before
 
--- an answer with the list buffer as it came in
+-- an answer with the buffer as it came in
 abbrev kept : tie.After-one-of → Done → Called
-kept c d = calledOf d (start c .args .ids .now)
+kept c d = calledOf d (start c .args .buffer .now)
 
--- the letter is no command, and no read
+-- the letter is no command, no read, and no raw write
 no-command : (c : tie.Else1) → oneOf (start (c .before) .args .read .letter) (65 ∷ 83 ∷ 82 ∷ 88 ∷ 67 ∷ []) ≡ false
 no-command c = sym (c .before .one-of .ensures) ∙ c .if1 .left
 
 no-read : (c : tie.Else2) → oneOf (start (tried (c .before) .before) .args .read .letter) (86 ∷ 76 ∷ 77 ∷ 73 ∷ []) ≡ false
 no-read c = sym (c .before .one-of2 .ensures) ∙ c .if2 .left
+
+no-write : (c : tie.Else3) → oneOf (start (tried (tried-two (c .before) .before) .before) .args .read .letter) (75 ∷ 101 ∷ 114 ∷ []) ≡ false
+no-write c = sym (c .before .one-of3 .ensures) ∙ c .if3 .left
 
 returns : tie.Need-returns
 unfolding call
@@ -77,10 +89,20 @@ returns-3 c =
 returns-4 : tie.Need-returns-4
 unfolding call
 returns-4 c =
+    let is = is-image (imaged c) in
+    let not = tried-three (is .before) in
+    let no = tried-two (not .before) in
+    rw (no-command (tried (no .before)), no-read no, no-write not, sym (is .before .one-of4 .ensures) ∙ is .if4 .taken) (imaged c .image .ensures)
+
+returns-5 : tie.Need-returns-5
+unfolding call
+returns-5 c =
     let is = is-event (happened c) in
-    let no = tried-two (is .before) in
+    let not = tried-three (is .before) in
+    let no = tried-two (not .before) in
     let none = tried (no .before) in
-    rw (no-command none, no-read no, sym (is .before .one-of3 .ensures) ∙ is .if3 .left) (λ i. kept (none .before) (happened c .event .ensures i))
+    rw (no-command none, no-read no, no-write not, sym (is .before .one-of4 .ensures) ∙ is .if4 .left)
+    (λ i. kept (none .before) (happened c .event .ensures i))
 
 pub call-spec : {M : Type 1} → statement M
 call-spec =
@@ -111,9 +133,18 @@ call-spec =
     (λ c. search needs)
     (λ c. search needs)
     returns-3
+    (λ c. search needs)
+    (λ c κs. search needs)
     (λ c κs. search needs)
     (λ c. search needs)
     (λ c. search needs)
     (λ c. search needs)
     (λ c. search needs)
-    returns-4)
+    (λ c. search needs)
+    returns-4
+    (λ c κs. search needs)
+    (λ c. search needs)
+    (λ c. search needs)
+    (λ c. search needs)
+    (λ c. search needs)
+    returns-5)

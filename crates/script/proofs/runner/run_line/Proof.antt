@@ -39,7 +39,7 @@ obeying c = c .before .before .before .before .before .before .before .before .b
 -- all that came in, at a machine and with a line
 abbrev came : tie.Start → List ℕ → Machine → Session
 came s line m =
-    let a = s .args in session m (a .keys .now) (a .times .now) (a .fields .now) (a .records .now) (a .ids .now) line (sheet (a .out .now) (a .at))
+    let a = s .args in session m (a .keys .now) (a .times .now) (a .fields .now) (a .records .now) (a .buffer .now) line (sheet (a .out .now) (a .at))
 
 -- what was read says what the line says, and the line is left as it was read
 says : (c : tie.Start) (m : Machine) (read : Line) (after : List ℕ) → m ≡ counted (c .args .machine)

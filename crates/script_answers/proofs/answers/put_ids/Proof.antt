@@ -10,12 +10,12 @@ use Rattle.script_answers.proofs.answers.put_ids.Statement.{statement}
 use Rattle.script_answers.proofs.answers.put_ids.Tie as tie
 
 abbrev Inv-loop : tie.InvT-loop
-Inv-loop out₀ at ids len n next₀ i₀ out next i =
-    (length out ≡ length out₀) × (i ≤ n) × (n ≡ min len (length ids)) ×
-    (sheet out next ≡ writesBelow (λ k. number (getD ids k 0) ∷ []) i (sheet out₀ at))
+Inv-loop out₀ at buffer len n next₀ i₀ out next i =
+    (length out ≡ length out₀) × (i ≤ n) × (n ≡ min len (length buffer)) ×
+    (sheet out next ≡ writesBelow (λ k. number (getD buffer k 0) ∷ []) i (sheet out₀ at))
 
 abbrev μ-loop : tie.MeasureT-loop
-μ-loop out₀ at ids len n next₀ i₀ out next i = n - i
+μ-loop out₀ at buffer len n next₀ i₀ out next i = n - i
 
 -- the places that the proof refers to, each from a later one
 abbrev start : tie.At-loop Inv-loop μ-loop → tie.Start Inv-loop μ-loop
@@ -58,7 +58,7 @@ returns : tie.Need-returns Inv-loop μ-loop
 returns c =
     let at-loop = c .before in
     let s = start at-loop in
-    let e : min (s .args .len) (length (s .args .ids .now)) ≡ at-loop .loop .i = omega arith in rw e (at-loop .loop .inv .3)
+    let e : min (s .args .len) (length (s .args .buffer .now)) ≡ at-loop .loop .i = omega arith in rw e (at-loop .loop .inv .3)
 
 pub put-ids-spec : {M : Type 1} → statement M
 put-ids-spec =

@@ -21,6 +21,9 @@ told2 c = c .before .before .before
 abbrev tail3 : tie.After-put-row → tie.After-tail3
 tail3 c = c .before .before .before
 
+abbrev tail4 : tie.After-put-image → tie.After-tail4
+tail4 c = c .before .before .before
+
 put-scene-requires : tie.Need-put-scene-requires
 put-scene-requires c κs = let t = c .before .before in subst fits (t .tail .given .1) (start t .pre) .0
 
@@ -39,6 +42,9 @@ returns-4 c = let put = c .before .before in rw (told2 put .enum-told2 .given .1
 returns-5 : tie.Need-returns-5
 returns-5 c = let put = c .before .before in rw (tail3 put .tail3 .given .1) (put .put-row .ensures)
 
+returns-6 : tie.Need-returns-6
+returns-6 c = let put = c .before .before in rw (tail4 put .tail4 .given .1) (put .put-image .ensures)
+
 pub put-tail-spec : {M : Type 1} → statement M
 put-tail-spec =
     tie.close
@@ -53,6 +59,8 @@ put-tail-spec =
     (λ c κs. search needs)
     (λ c. search needs)
     (λ c κs. search needs)
+    (λ c. search needs)
+    (λ c κs. search needs)
     returns
     (λ c. search needs)
     returns-2
@@ -61,4 +69,6 @@ put-tail-spec =
     (λ c. search needs)
     returns-4
     (λ c. search needs)
-    returns-5)
+    returns-5
+    (λ c. search needs)
+    returns-6)

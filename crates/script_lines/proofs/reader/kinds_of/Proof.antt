@@ -56,37 +56,42 @@ returns-12 c = rw (c .match .keys12)
 
 returns-13 : tie.Need-returns-13
 unfolding kindsOf
-returns-13 c = rw (c .before .match .keys13) (c .scene-and5 .ensures)
+returns-13 c = rw (c .match .keys13)
 
 returns-14 : tie.Need-returns-14
 unfolding kindsOf
-returns-14 c = rw (c .before .match .keys14) (c .scene-and6 .ensures)
+returns-14 c = rw (c .match .keys14)
 
 returns-15 : tie.Need-returns-15
 unfolding kindsOf
-returns-15 c =
+returns-15 c = rw (c .before .match .keys15) (c .scene-and5 .ensures)
+
+returns-16 : tie.Need-returns-16
+unfolding kindsOf
+returns-16 c = rw (c .before .match .keys16) (c .scene-and6 .ensures)
+
+returns-17 : tie.Need-returns-17
+unfolding kindsOf
+returns-17 c =
     let no = c .match .rest in
     rw (
+      ne-eqb _ _ (no .0 .0 .0 .0 .0 .0 .0 .0 .0 .0 .0 .0 .0 .0 .0 .1),
+      ne-eqb _ _ (no .0 .0 .0 .0 .0 .0 .0 .0 .0 .0 .0 .0 .0 .0 .1),
       ne-eqb _ _ (no .0 .0 .0 .0 .0 .0 .0 .0 .0 .0 .0 .0 .0 .1),
-      ne-eqb _ _ (no .0 .0 .0 .0 .0 .0 .0 .0 .0 .0 .0 .0 .1),
-      ne-eqb _ _
-          (no .0 .0 .0 .0 .0 .0 .0 .0 .0 .0 .0 .1),
-      ne-eqb _ 86 (λ e. no .0 .0 .0 .0 .0 .0 .0 .0 .0 .0 .1 (inr e)),
-      ne-eqb _ 82
-          (λ e. no .0 .0 .0 .0 .0 .0 .0 .0 .0 .0 .1 (inl e)),
+      ne-eqb _ 86 (λ e. no .0 .0 .0 .0 .0 .0 .0 .0 .0 .0 .0 .0 .1 (inr e)),
+      ne-eqb _ 82 (λ e. no .0 .0 .0 .0 .0 .0 .0 .0 .0 .0 .0 .0 .1 (inl e)),
+      ne-eqb _ _ (no .0 .0 .0 .0 .0 .0 .0 .0 .0 .0 .0 .1),
+      ne-eqb _ _ (no .0 .0 .0 .0 .0 .0 .0 .0 .0 .0 .1),
       ne-eqb _ _ (no .0 .0 .0 .0 .0 .0 .0 .0 .0 .1),
-      ne-eqb _ _
-          (no .0 .0 .0 .0 .0 .0 .0 .0 .1),
+      ne-eqb _ _ (no .0 .0 .0 .0 .0 .0 .0 .0 .1),
       ne-eqb _ _ (no .0 .0 .0 .0 .0 .0 .0 .1),
       ne-eqb _ _ (no .0 .0 .0 .0 .0 .0 .1),
-      ne-eqb _ _
-          (no .0 .0 .0 .0 .0 .1),
+      ne-eqb _ _ (no .0 .0 .0 .0 .0 .1),
       ne-eqb _ _ (no .0 .0 .0 .0 .1),
       ne-eqb _ _ (no .0 .0 .0 .1),
       ne-eqb _ _ (no .0 .0 .1),
       ne-eqb _ _ (no .0 .1),
-      ne-eqb _ _
-          (no .1),
+      ne-eqb _ _ (no .1),
     )
 
 pub kinds-of-spec : {M : Type 1} → statement M
@@ -113,4 +118,6 @@ kinds-of-spec =
     returns-12
     returns-13
     returns-14
-    returns-15)
+    returns-15
+    returns-16
+    returns-17)

@@ -17,7 +17,7 @@ returns : tie.Need-returns
 returns c = rw (c .before .enum-told .given .1, eq-eqb _ _ (c .if1 .taken))
 
 returns-2 : tie.Need-returns-2
-returns-2 c = rw (c .before .enum-told11 .given .1, eq-eqb _ _ (c .if2 .taken))
+returns-2 c = rw (c .before .before .kind .given .1, eq-eqb _ _ (c .if2 .taken))
 
 returns-3 : tie.Need-returns-3
 returns-3 c = rw (c .before .enum-told .given .1, ne-eqb _ _ (c .if1 .left))
@@ -64,8 +64,8 @@ returns-12 c = let t = c .before .before in rw (t .enum-told10 .given .1) (numbe
 returns-13 : tie.Need-returns-13
 returns-13 c =
     let e = c .before .before in
-    let t = e .before in
-    rw (t .enum-told11 .given .1, ne-eqb _ _ (e .if2 .left)) (number-read (came (t .before .before)) (c .number7 .ensures))
+    let t = e .before .before in
+    rw (t .kind .given .1, ne-eqb _ _ (e .if2 .left)) (number-read (came (t .before .before)) (c .number7 .ensures))
 
 pub read-word-spec : {M : Type 1} → statement M
 read-word-spec =

@@ -157,6 +157,7 @@ read-words-spec =
     μ-loop
     (λ c κs. tt)
     loop-holds
+    (λ c. omega arith)
     array-copy-out-read-next
     read-next-requires
     enum-known-word

@@ -7,11 +7,11 @@ use Rattle.text_output.proofs.output.is_fault.Tie as tie
 
 returns : tie.Need-returns
 unfolding isFault
-returns c = let n = c .before .args .status in rw (lt-ltb n 10 (omega arith))
+returns c = let n = c .before .args .status in rw (lt-ltb n 16 (omega arith))
 
 returns-2 : tie.Need-returns-2
 unfolding isFault
-returns-2 c = let n = c .before .args .status in rw (le-ltb n 10 (omega arith))
+returns-2 c = let n = c .before .args .status in rw (le-ltb n 16 (omega arith))
 
 pub is-fault-spec : {M : Type 1} → statement M
 is-fault-spec = tie.close (tie.spec returns returns-2)

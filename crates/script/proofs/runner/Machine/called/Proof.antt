@@ -23,10 +23,10 @@ put c = c .before .before
 abbrev came : tie.After-call → Session
 came c =
     let a = start c .args in
-    session (a .self) (a .keys .now) (a .times .now) (a .fields .now) (a .records .now) (a .ids .now) (a .line .now) (sheet (a .out .now) (a .at))
+    session (a .self) (a .keys .now) (a .times .now) (a .fields .now) (a .records .now) (a .buffer .now) (a .line .now) (sheet (a .out .now) (a .at))
 
 abbrev left : tie.After-call → Called
-left c = let a = start c .args in call (a .read .letter) (a .read .values) (bytesAt (a .read) (a .line .now)) (a .ids .now) (tableIn (came c))
+left c = let a = start c .args in call (a .read .letter) (a .read .values) (bytesAt (a .read) (a .line .now)) (a .buffer .now) (tableIn (came c))
 
 put-answer-requires : tie.Need-put-answer-requires
 put-answer-requires c κs = answer-fits (made c .call .result) _ _ _ _ _ _ _ (made c .call .ensures)

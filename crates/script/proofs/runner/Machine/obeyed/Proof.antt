@@ -47,7 +47,7 @@ refused c = c .before .before
 abbrev came : tie.After-slice-known6 → Session
 came c =
     let a = start c .args in
-    session (a .self) (a .keys .now) (a .times .now) (a .fields .now) (a .records .now) (a .ids .now) (a .line .now) (sheet (a .out .now) (a .at))
+    session (a .self) (a .keys .now) (a .times .now) (a .fields .now) (a .records .now) (a .buffer .now) (a .line .now) (sheet (a .out .now) (a .at))
 
 -- what a call of the table leaves
 abbrev left : tie.After-called → Session

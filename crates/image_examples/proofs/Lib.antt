@@ -1,0 +1,2 @@
+-- `Rows` has the theorem that every row of the table holds.
+pub mod Rows

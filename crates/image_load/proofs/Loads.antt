@@ -1,0 +1,69 @@
+-- The laws of a load on a sound table: refused as a whole, or done. Assumes nothing.
+use Prim.Native.Nat.{ℕ}
+use mathlib.Core.Path.{_≡_, sym, ap, _∙_}
+use mathlib.Core.Bool.{Bool, true, false, not}
+use mathlib.Core.List.{List}
+use mathlib.Core.Option.{Option, some}
+use native.Mathlib.Omega.{arith}
+use borrow.Author.Tests.{not-true, not-false}
+use Rattle.words.specs.Constants.{success, unsound, badImage}
+use Rattle.slots.specs.Slots.{Slots}
+use Rattle.state.specs.declared.ScenesState.{ScenesState}
+use Rattle.state.specs.declared.Outcome.{Outcome}
+use Rattle.state.specs.Table.{Table}
+use Rattle.state.specs.Sound.{sound}
+use Rattle.state.specs.Answer.{resultOf, refused}
+use Rattle.state.proofs.Guard.{resultIn, refuses-outcome, unsound-outcome, admits}
+use Rattle.image_reader.specs.declared.Arrays.the-variants.{Both, NoArrays}
+use Rattle.image_reader.specs.Image.{Image, entriesFrom, recordsFrom, arraysIn, imageIn}
+use Rattle.image_gate.specs.Verdict.{verdict, imageGate}
+use Rattle.image_load.specs.Loading.{restored, loadImage}
+use Rattle.image_gate.specs.Deciding.{imageFrom, imageOf, listed}
+use Rattle.image_gate.proofs.Gating.{Passed, passed}
+
+abbrev answered : ℕ → ScenesState → Outcome
+answered n state = record { status = n; save = false; state = state }
+
+-- what the test of the table said
+pub found-sound : (t : Table) (r : Bool) → r ≡ sound t → not r ≡ false → sound t ≡ true
+found-sound t r e h = sym e ∙ not-false r h
+
+-- 6 on a table that is not sound
+pub load-unsound : (t : Table) (b : List ℕ) (r : Bool) → r ≡ sound t → not r ≡ true → (o : Outcome) → o ≡ answered unsound (t .state)
+    → resultIn (t .slots) (t .records) o ≡ loadImage b t
+unfolding loadImage
+load-unsound t b r e h o q = unsound-outcome t (sym e ∙ not-true r h) _ o _ q
+
+module _ (t : Table) (b : List ℕ) (s : sound t ≡ true) where
+  no-image : arraysIn b ≡ NoArrays → badImage ≡ imageGate (t .state .size) b
+  unfolding imageIn verdict
+  no-image e = rw e
+
+  pub load-unread : arraysIn b ≡ NoArrays → (o : Outcome) → o ≡ answered badImage (t .state) → resultIn (t .slots) (t .records) o ≡ loadImage b t
+  unfolding loadImage
+  load-unread e o q = refuses-outcome t s badImage _ (no-image e) o _ q (λ z. let w : ⊥ = omega arith in w)
+
+  module _ (first second : ℕ) (e : arraysIn b ≡ Both first second) (g : ℕ) (d : g ≡ verdict (imageFrom (t .state .size) b first second)) where
+    same-image : imageFrom (t .state .size) b first second ≡ imageIn (t .state .size) b
+    unfolding imageIn
+    same-image = rw e
+
+    same-gate : g ≡ imageGate (t .state .size) b
+    same-gate = d ∙ ap verdict same-image
+
+    pub load-refused : (g ≡ success → ⊥) → (o : Outcome) → o ≡ answered g (t .state) → resultIn (t .slots) (t .records) o ≡ loadImage b t
+    unfolding loadImage
+    load-refused h o q = refuses-outcome t s g _ same-gate o _ q h
+
+    module _ (z : g ≡ success) where
+      pub load-passed : Passed (t .state .size) (entriesFrom b first) (recordsFrom b second)
+      load-passed = passed (t .state .size) (entriesFrom b first) (recordsFrom b second) (sym d ∙ z)
+
+      pub load-done : (state : ScenesState) (slots : Slots) (records : List ℕ)
+          → record { state = state; slots = slots; records = records } ≡ restored (some (imageOf (listed (entriesFrom b first)) (listed (recordsFrom b second)))) t
+          → (o : Outcome) → o ≡ answered success state → resultIn slots records o ≡ loadImage b t
+      unfolding loadImage
+      load-done state slots records r o q =
+          ap (resultIn slots records) q
+          ∙ ap (resultOf success false) (r ∙ ap (λ (i : Option Image). restored i t) (sym (load-passed .image) ∙ same-image))
+          ∙ admits t s g _ same-gate z .answers (refused t) _

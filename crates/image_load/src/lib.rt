@@ -1,0 +1,43 @@
+// Loading an image into a table. All that refuses it is decided before the first write.
+mod writing;
+
+use image_gate::image_gate;
+use image_reader::Arrays;
+use image_reader::arrays_in;
+use state::Outcome;
+use state::ScenesState;
+use words::Fault;
+use words::Status;
+use writing::restore;
+ghost use mathlib.Core.Path.{_≡_};
+ghost use Rattle.state.specs.Table.{tableOf};
+ghost use Rattle.state.specs.Answer.{resultOf};
+ghost use Rattle.image_load.specs.Loading.{loadImage};
+
+// Replaces the entries and the records of a table by those of an image, in order, and steps the data version.
+pub fn load_image(
+    state: ScenesState,
+    keys: &mut [u64],
+    times: &mut [u32],
+    fields: &mut [u8],
+    records: &mut [u64],
+    image: &[u8],
+) -> Outcome
+    ensures { λ r.
+        let before = tableOf state (now (keys .entry)) (now (times .entry)) (now (fields .entry)) (now (records .entry)) in
+        let after = tableOf (r .state) (now (keys .exit)) (now (times .exit)) (now (fields .exit)) (now (records .exit)) in
+        ⌜ resultOf (r .status) (r .save) after ≡ loadImage (now (image .entry)) before ⌝ }
+{
+    if !state.is_sound(keys, times, fields, records) {
+        return Outcome::unsaved(Fault::UNSOUND, state);
+    }
+    let Arrays::Both(first, second) = arrays_in(image) else {
+        return Outcome::unsaved(Fault::BAD_IMAGE, state);
+    };
+    let refusal = image_gate(image, first, second, state.size);
+    if refusal != Status::SUCCESS {
+        return Outcome::unsaved(refusal, state);
+    }
+    let loaded = restore(state, keys, times, fields, records, image, first, second);
+    Outcome::unsaved(Status::SUCCESS, loaded)
+}

@@ -1,0 +1,4 @@
+// Runs scenetrace on images: saved, loaded and refused.
+fn main() {
+    console::trace();
+}

@@ -1,0 +1,31 @@
+// TLV in lent bytes: elements, members of containers, and what is written. It knows nothing of scenes.
+mod elements;
+mod encoding;
+mod members;
+mod passing;
+mod types;
+mod values;
+
+pub use elements::Element;
+pub use elements::Parsed;
+pub use elements::element_at;
+pub use encoding::number_size;
+pub use encoding::octets_size;
+pub use encoding::put_bool;
+pub use encoding::put_head;
+pub use encoding::put_number;
+pub use encoding::put_octets;
+pub use encoding::put_plain;
+pub use members::Step;
+pub use members::member_at;
+pub use passing::Next;
+pub use passing::container_next;
+pub use types::TagType;
+pub use types::ValueType;
+pub use values::Boolean;
+pub use values::Number;
+pub use values::Octets;
+pub use values::bool_at;
+pub use values::inside_at;
+pub use values::number_at;
+pub use values::octets_at;
