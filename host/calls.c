@@ -94,9 +94,28 @@ static void copies_and_removals(void) {
 static void nothing_handed_over(void) {
     EXPECT(scenes_table_add(&table, first, 5, YES, NULL, 0, NULL, 0).save && table.state.entries == 1 && fields[0] == 0);
     EXPECT(scenes_table_store(&table, first, YES, NULL, 0).save && fields[0] == 1 && fields[1] == 0x18 && times[0] == 5);
-    EXPECT(scenes_table_get_membership(&table, NULL, 0, group, YES).status == SCENES_LIST_TOO_LONG);
+    EXPECT(scenes_table_get_membership(&table, NULL, 0, group, YES).status == SCENES_BUFFER_TOO_SHORT);
     EXPECT(scenes_table_remove_fabric(&table, 0x12).save);
     EXPECT(scenes_table_get_membership(&table, NULL, 0, group, YES).status == SCENES_SUCCESS);
+}
+
+static void images(void) {
+    uint8_t image[SCENES_IMAGE_MAX(N)], again[SCENES_IMAGE_MAX(N)];
+    struct scenes_image_saved saved = scenes_table_save_image(&table, image, 10);
+    EXPECT(saved.status == SCENES_BUFFER_TOO_SHORT && saved.len == 0 && scenes_state_equal(saved.state, table.state));
+    memset(image, 0xEE, sizeof image);
+    saved = scenes_table_save_image(&table, image, sizeof image);
+    EXPECT(saved.status == SCENES_SUCCESS && saved.len > 10 && saved.len < sizeof image && image[0] == 0x15 && image[saved.len] == 0xEE);
+    EXPECT(scenes_table_save_image(&table, NULL, 0).status == SCENES_BUFFER_TOO_SHORT);
+    struct scenes_state before = table.state;
+    EXPECT(scenes_table_load_image(&table, NULL, 0).status == SCENES_BAD_IMAGE && scenes_state_equal(table.state, before));
+    EXPECT(scenes_table_remove_fabric(&table, 0x12).save && table.state.entries < before.entries);
+    struct scenes_outcome loaded = scenes_table_load_image(&table, image, saved.len);
+    EXPECT(loaded.status == SCENES_SUCCESS && !loaded.save && table.state.entries == before.entries && table.state.recorded == before.recorded);
+    EXPECT(table.state.dataver == before.dataver + 2);
+    EXPECT(scenes_table_save_image(&table, again, sizeof again).len == saved.len && memcmp(image, again, saved.len) == 0);
+    image[saved.len - 1 - 2] ^= 0x80;
+    EXPECT(scenes_table_load_image(&table, image, saved.len).status == SCENES_BAD_IMAGE);
 }
 
 static void lifecycle(void) {
@@ -129,7 +148,7 @@ static void texts(void) {
     int named = 0;
     for (int status = 0; status <= UINT8_MAX; status++)
         named += strcmp(scenes_status_text((uint8_t)status), none) != 0;
-    EXPECT(named == 13 && strcmp(scenes_status_text(SCENES_NOT_FOUND), "no such scene") == 0);
+    EXPECT(named == 15 && strcmp(scenes_status_text(SCENES_NOT_FOUND), "no such scene") == 0);
 }
 
 int main(void) {
@@ -139,6 +158,7 @@ int main(void) {
     writes();
     scene_reads();
     list_and_info();
+    images();
     copies_and_removals();
     nothing_handed_over();
     lifecycle();

@@ -37,7 +37,7 @@
 
 /* What this header was written for: it steps whenever a struct, an answer or a call of the header changes. A host that may meet another
  * library compares it with scenes_version() before any other call. Version 1 had none to ask for. */
-#define SCENES_VERSION 2
+#define SCENES_VERSION 3
 
 /* An answer that is dropped is warned of, since the head is in it. Pointers are not null, and no two of a call's arrays overlap. */
 #if (defined(__cplusplus) && __cplusplus >= 201703L) || (defined(__STDC_VERSION__) && __STDC_VERSION__ >= 202311L)
@@ -83,12 +83,15 @@ extern "C" {
 #define SCENES_SINGLE_ELEMENT 5    /* info asked for one list element */
 #define SCENES_UNSOUND 6           /* the head or the lent arrays are not those of a table */
 #define SCENES_BAD_PAIR 7          /* a pair byte above 2 */
-#define SCENES_LIST_TOO_LONG 8     /* the scene list buffer is shorter than the list */
+#define SCENES_BUFFER_TOO_SHORT 8  /* the buffer is shorter than the scene list, or than the image */
+#define SCENES_BAD_IMAGE 9         /* an image that is none, or one of a larger table */
+#define SCENES_CLASHING_IMAGE 10   /* an image with a key twice, with two records of a fabric, or with scene 0 or 255 */
 
 #define SCENES_MAX_SCENES 1024    /* the largest N */
 #define SCENES_MAX_FIELDS 128     /* the most field bytes of a scene */
 #define SCENES_STRIDE 129         /* bytes of `fields` for each scene */
 #define SCENES_MAX_TIME 60000000u /* the longest transition time */
+#define SCENES_IMAGE_MAX(n) ((size_t)171 * (n) + 8) /* no image of a table of n places has more bytes */
 #define SCENES_NO_POSITION 1024   /* the position that a refused view or lookup answers: no table has an entry there */
 
 /* Membership: whether the fabric's endpoint is in the group. Group 0 needs no answer. Numbers above 1 all say that the host could not tell. */
@@ -199,6 +202,13 @@ struct scenes_info_read {
     uint8_t fabric;
 };
 
+/* How many bytes of the buffer are the image. A refused save has 0, and the buffer is as it was. */
+struct scenes_image_saved {
+    struct scenes_state state;
+    uint8_t status;
+    size_t len;
+};
+
 /* Where field bytes lie: `len` bytes from `fields + offset` on, all of them within the lent count. None are 0 and 0. */
 struct scenes_field_place {
     size_t offset;
@@ -235,6 +245,8 @@ SCENES_ASSERT(info_read, sizeof(struct scenes_info_read) == 48 && offsetof(struc
                              offsetof(struct scenes_info_read, group) == 36 && offsetof(struct scenes_info_read, scene) == 38 &&
                              offsetof(struct scenes_info_read, valid) == 39 && offsetof(struct scenes_info_read, remaining) == 40 &&
                              offsetof(struct scenes_info_read, fabric) == 41);
+SCENES_ASSERT(image_saved, sizeof(struct scenes_image_saved) == 48 && offsetof(struct scenes_image_saved, status) == 32 &&
+                               offsetof(struct scenes_image_saved, len) == 40);
 SCENES_ASSERT(field_place, sizeof(struct scenes_field_place) == 16 && offsetof(struct scenes_field_place, len) == 8);
 
 /* ---- The calls of the library */
@@ -308,6 +320,14 @@ SCENES_KEEP struct scenes_outcome scenes_remove_fabric(SCENES_WRITE, uint8_t fab
 /* A factory reset: an empty table, and a step of the data version. The host drops what it had saved. Answers 6, 0. */
 SCENES_KEEP struct scenes_outcome scenes_factory_reset(SCENES_READ) SCENES_NONNULL;
 
+/* Writes the table's image, which is what rs-matter saves, into the front of `buffer`: SCENES_IMAGE_MAX(N) bytes are always enough.
+ * Answers 6, 8, 0. */
+SCENES_KEEP struct scenes_image_saved scenes_save_image(SCENES_READ, uint8_t *SCENES_RESTRICT buffer, size_t buffer_len) SCENES_NONNULL;
+
+/* Replaces the table's scenes and records by those of an image, in order, and steps the data version. Any bytes will do: what is no image
+ * is refused, and changes nothing. Answers 6, 9, 10, 0. */
+SCENES_KEEP struct scenes_outcome scenes_load_image(SCENES_WRITE, const uint8_t *SCENES_RESTRICT image, size_t image_len) SCENES_NONNULL;
+
 /* A startup without a saved table: an empty table at the data version that the head has. Answers 6, 0. */
 SCENES_KEEP struct scenes_outcome scenes_startup(SCENES_READ) SCENES_NONNULL;
 
@@ -351,7 +371,9 @@ static inline const char *scenes_status_text(uint8_t status) {
     case SCENES_SINGLE_ELEMENT: return "one list element was asked for";
     case SCENES_UNSOUND: return "the table is not sound";
     case SCENES_BAD_PAIR: return "a pair byte above 2";
-    case SCENES_LIST_TOO_LONG: return "the list does not fit its buffer";
+    case SCENES_BUFFER_TOO_SHORT: return "the buffer is too short";
+    case SCENES_BAD_IMAGE: return "no image of a table of this size";
+    case SCENES_CLASHING_IMAGE: return "an image that contradicts itself";
     case SCENES_INVALID_COMMAND: return "not in the group, or not scenable";
     case SCENES_CONSTRAINT_ERROR: return "a scene id or a time out of range";
     case SCENES_INSUFFICIENT_SPACE: return "no room";
@@ -380,7 +402,7 @@ static inline struct scenes_outcome scenes_table_keep(struct scenes_table *table
     return outcome;
 }
 
-/* An empty table in the host's arrays. For a saved one set `state` to the saved head, and ask scenes_table_is_sound. */
+/* An empty table in the host's arrays. For a saved one load its image by scenes_table_load_image. */
 SCENES_KEEP SCENES_NONNULL static inline struct scenes_table scenes_table_new(size_t places, uint64_t *keys, uint32_t *times,
                                                                               uint8_t *fields, uint64_t *records) {
     struct scenes_table table;
@@ -469,6 +491,16 @@ SCENES_KEEP static inline struct scenes_outcome scenes_table_remove_fabric(struc
 
 SCENES_KEEP static inline struct scenes_outcome scenes_table_factory_reset(struct scenes_table *t) {
     return scenes_table_keep(t, scenes_factory_reset(SCENES_LENT(t)));
+}
+
+SCENES_KEEP static inline struct scenes_image_saved scenes_table_save_image(const struct scenes_table *t, uint8_t *buffer,
+                                                                            size_t buffer_len) {
+    uint8_t none = 0;
+    return scenes_save_image(SCENES_LENT(t), buffer_len == 0 ? &none : buffer, buffer_len);
+}
+
+SCENES_KEEP static inline struct scenes_outcome scenes_table_load_image(struct scenes_table *t, const uint8_t *image, size_t image_len) {
+    return scenes_table_keep(t, scenes_load_image(SCENES_LENT(t), scenes_bytes_or_none(image, image_len), image_len));
 }
 
 SCENES_KEEP static inline struct scenes_outcome scenes_table_startup(struct scenes_table *t) {

@@ -1,7 +1,7 @@
 //! The exported calls, each with its soundness test. A recall is its two calls.
 use crate::ffi::{self, Lent, LentMut, Outcome, State};
 use crate::requests::{CopyRequest, GroupKey, SceneKey};
-use crate::rows::{Side, FIELDS, TIME};
+use crate::rows::{image_max, Side, FIELDS, TIME};
 
 const STRIDE: usize = 129;
 const YES: u8 = 1;
@@ -19,6 +19,8 @@ pub struct Ours {
     now: Table,
     kept: Table,
     ids: [u8; 1024],
+    buffer: Vec<u8>,
+    len: usize,
 }
 
 impl Ours {
@@ -30,7 +32,7 @@ impl Ours {
             fields: vec![0; size * STRIDE],
             records: vec![0; size],
         };
-        Self { kept: now.clone(), now, ids: [0; 1024] }
+        Self { kept: now.clone(), now, ids: [0; 1024], buffer: vec![0; image_max(size)], len: 0 }
     }
 
     fn lend(&mut self) -> (State, LentMut<'_>) {
@@ -110,6 +112,24 @@ impl Side for Ours {
         let (state, lent) = self.lend();
         let done = ffi::remove_fabric(state, lent, fabric);
         self.done(done)
+    }
+    fn save(&mut self) -> u8 {
+        let Table { state, keys, times, fields, records } = &self.now;
+        let saved = ffi::save_image(*state, Lent { keys, times, fields, records }, &mut self.buffer);
+        self.len = saved.len;
+        saved.status
+    }
+    fn load(&mut self) -> u8 {
+        let Table { state, keys, times, fields, records } = &mut self.now;
+        let done = ffi::load_image(*state, LentMut { keys, times, fields, records }, &self.buffer[..self.len]);
+        self.done(done)
+    }
+    fn image(&self) -> Vec<u8> {
+        self.buffer[..self.len].into()
+    }
+    fn put_image(&mut self, image: &[u8]) {
+        self.buffer[..image.len()].copy_from_slice(image);
+        self.len = image.len();
     }
     fn keep(&mut self) {
         self.kept = self.now.clone();

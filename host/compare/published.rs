@@ -1,4 +1,5 @@
-//! The handlers of the published scenes.rs. A save writes nothing, the host always says yes, and requests and responses have no TLV.
+//! The handlers of the published scenes.rs. But for the rows of saves and loads a save writes nothing; the host always says yes, and requests
+//! and responses have no TLV.
 use std::future::Future;
 use std::marker::PhantomData;
 use std::num::NonZeroU8;
@@ -11,9 +12,9 @@ use crate::dm::{
     InvokeContext, LifecycleOp, ReadContext,
 };
 use crate::error::{Error, ErrorCode};
-use crate::persist::{KvBlobStoreAccess, Nothing};
+use crate::persist::{Blob, KvBlobStoreAccess, Nothing, Save};
 use crate::requests::{CopyRequest, GroupKey, SceneKey};
-use crate::rows::{Side, FIELDS, TIME};
+use crate::rows::{image_max, Side, FIELDS, TIME};
 use crate::tlv::{TLVArray, TLVBuilder, TLVBuilderParent, TLVTag, TLVWrite, TLVWriteParent};
 
 struct Ctx {
@@ -120,6 +121,7 @@ pub struct Published<const N: usize> {
     now: ScenesState<N>,
     kept: ScenesState<N>,
     ids: Ids,
+    blob: Blob,
 }
 
 /// The status of a call with a response that is dropped.
@@ -148,7 +150,8 @@ macro_rules! written {
 
 impl<const N: usize> Published<N> {
     pub fn new() -> Self {
-        Self { now: ScenesState::new(), kept: ScenesState::new(), ids: Ids { bytes: [0; 1024], len: 0 } }
+        let ids = Ids { bytes: [0; 1024], len: 0 };
+        Self { now: ScenesState::new(), kept: ScenesState::new(), ids, blob: Blob::new(image_max(N)) }
     }
 
     fn handler(&self) -> ScenesHandler<'_, N, Host> {
@@ -236,6 +239,28 @@ impl<const N: usize> Side for Published<N> {
         } else {
             u8::MAX
         }
+    }
+    #[inline(never)]
+    fn save(&mut self) -> u8 {
+        if self.now.save(&&self.blob).is_ok() {
+            0
+        } else {
+            u8::MAX
+        }
+    }
+    #[inline(never)]
+    fn load(&mut self) -> u8 {
+        if self.handler().lifecycle(&self.blob, LifecycleOp::Startup).is_ok() {
+            0
+        } else {
+            u8::MAX
+        }
+    }
+    fn image(&self) -> Vec<u8> {
+        self.blob.image()
+    }
+    fn put_image(&mut self, image: &[u8]) {
+        self.blob.put_image(image);
     }
     fn keep(&mut self) {
         // SAFETY: a table is numbers and arrays of them, with nothing that a copy would share.

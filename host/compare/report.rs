@@ -15,21 +15,41 @@ pub trait Meter {
 
 const ABOUT: &str = "
 Each cell has ours, the Rust's, and their ratio: below 1 ours is faster. A number in brackets behind a row's name is a refusal, which both
-answer. A time is the median of 4,025 single calls, less that of a call that does nothing, in the least disturbed of 15 passes; the sides take
-turns. The table is in the cache.
+answer. A time is the median of 4,025 single calls, of a save or a load of 125, less that of a call that does nothing, in the least disturbed
+of 15 passes; the sides take turns. The table is in the cache.
 
 Ours: the call as a host makes it through the static library, with the test that the whole table is sound. A recall is two calls; a view
 hands over position and length of the fields, which are then copied. The Rust: the handler of the published scenes.rs, compiled with the driver,
-without a soundness test. Neither side has TLV, but for the walk of a recalled scene's fields, which ends at once here. Left out on both sides:
-saving (the Rust's storage writes nothing), the host's answers (always yes), applying.
+without a soundness test. Neither side has TLV but in a save and a load, and for the walk of a recalled scene's fields, which ends at once here.
+Left out of the other calls on both sides: saving (the Rust's storage writes nothing), the host's answers (always yes), applying.
+
+A save writes the image into a buffer of 171 N + 8 bytes, a load takes it from there into a table that holds the same. The Rust's are the
+handler's own save and startup over a storage that is such a buffer.
 
 A table has four fabrics with four groups each on one endpoint, a current scene for each fabric, and 16 field bytes in each scene. On an
 empty table an overwrite, a store and the views find nothing.";
 
 const SIZES: [usize; 4] = [16, 64, 256, 1024];
 
-/// How full the tables are, in halves.
-const FILLINGS: [(&str, usize); 3] = [("Full tables", 2), ("Half full tables", 1), ("Empty tables", 0)];
+/// How full the tables are, in halves, and whether their scenes have the most field bytes: such a table is saved and loaded only.
+struct Filling {
+    title: &'static str,
+    halves: usize,
+    long: bool,
+}
+
+impl Filling {
+    fn rows<S: Side>(&self) -> Vec<Row<S>> {
+        rows().into_iter().filter(|row| row.image || !self.long).collect()
+    }
+}
+
+const FILLINGS: [Filling; 4] = [
+    Filling { title: "Full tables", halves: 2, long: false },
+    Filling { title: "Half full tables", halves: 1, long: false },
+    Filling { title: "Empty tables", halves: 0, long: false },
+    Filling { title: "Full tables of scenes with 128 field bytes", halves: 2, long: true },
+];
 
 struct Cell {
     ours: f64,
@@ -37,14 +57,16 @@ struct Cell {
     status: u8,
 }
 
-fn measure<const N: usize>(entries: usize, meter: &mut impl Meter) -> Vec<Cell> {
+fn measure<const N: usize>(filling: &Filling, meter: &mut impl Meter) -> Vec<Cell> {
     let mut ours = Ours::new(N);
     let mut published = Published::<N>::new();
-    fill(&mut ours, entries);
-    fill(&mut published, entries);
+    let entries = N * filling.halves / 2;
+    fill(&mut ours, entries, filling.long);
+    fill(&mut published, entries, filling.long);
+    assert!(ours.image() == published.image(), "the two sides save different images");
     let plan = Plan { entries };
     let mut cells = Vec::new();
-    for (a, b) in rows().iter().zip(&rows()) {
+    for (a, b) in filling.rows().iter().zip(&filling.rows()) {
         let status = (a.call)(&mut ours, plan);
         assert_eq!(status, (b.call)(&mut published, plan), "{}: the two sides answer differently", a.name);
         ours.restore();
@@ -56,21 +78,20 @@ fn measure<const N: usize>(entries: usize, meter: &mut impl Meter) -> Vec<Cell> 
 }
 
 /// The cells of a size.
-fn sized(size: usize, part: usize, meter: &mut impl Meter) -> Vec<Cell> {
-    let entries = size * part / 2;
+fn sized(size: usize, filling: &Filling, meter: &mut impl Meter) -> Vec<Cell> {
     match size {
-        16 => measure::<16>(entries, meter),
-        64 => measure::<64>(entries, meter),
-        256 => measure::<256>(entries, meter),
-        _ => measure::<1024>(entries, meter),
+        16 => measure::<16>(filling, meter),
+        64 => measure::<64>(filling, meter),
+        256 => measure::<256>(filling, meter),
+        _ => measure::<1024>(filling, meter),
     }
 }
 
-fn print(title: &str, columns: &[Vec<Cell>]) {
-    println!("\n### {title}\n");
+fn print(filling: &Filling, columns: &[Vec<Cell>]) {
+    println!("\n### {}\n", filling.title);
     println!("| call | N 16: ours, Rust, ratio | N 64 | N 256 | N 1,024 | growth 16 to 1,024: ours, Rust |");
     println!("|---|---|---|---|---|---|");
-    for (i, row) in rows::<Ours>().iter().enumerate() {
+    for (i, row) in filling.rows::<Ours>().iter().enumerate() {
         let cells: Vec<&Cell> = columns.iter().map(|column| &column[i]).collect();
         print!("| {}", row.name);
         if cells[0].status != 0 {
@@ -92,8 +113,8 @@ fn machine() -> String {
 
 /// Every cell: by filling, size and row.
 fn pass(meter: &mut impl Meter) -> Vec<Vec<Vec<Cell>>> {
-    let sizes = |part: usize, meter: &mut _| SIZES.iter().map(|&size| sized(size, part, meter)).collect();
-    FILLINGS.iter().map(|&(_, part)| sizes(part, meter)).collect()
+    let sizes = |filling, meter: &mut _| SIZES.iter().map(|&size| sized(size, filling, meter)).collect();
+    FILLINGS.iter().map(|filling| sizes(filling, meter)).collect()
 }
 
 /// A table for each filling. The cells.
@@ -107,17 +128,19 @@ fn tables<M: Meter>(meter: &mut M) -> Vec<Vec<Vec<Cell>>> {
             }
         }
     }
-    for (columns, (title, _)) in best.iter().zip(FILLINGS) {
-        print(title, columns);
+    for (columns, filling) in best.iter().zip(&FILLINGS) {
+        print(filling, columns);
     }
     best
 }
 
+/// Saves and loads are not in the picture: they would need another scale.
 fn panels(columns: &[Vec<Cell>]) -> Vec<Panel> {
     let costs = |i: usize, cost: fn(&Cell) -> f64| columns.iter().map(|column| cost(&column[i])).collect();
     let rows = rows::<Ours>();
     rows.iter()
         .enumerate()
+        .filter(|(_, row)| !row.image)
         .map(|(i, row)| Panel { name: row.name, ours: costs(i, |c| c.ours), published: costs(i, |c| c.published) })
         .collect()
 }

@@ -6,6 +6,14 @@ pub const TIME: u32 = 1000;
 /// The field bytes of every scene: 16, of which the first ends the list that a recall walks, so that nothing is applied.
 pub const FIELDS: [u8; 16] = [0x18, 1, 2, 3, 4, 5, 6, 7, 8, 9, 10, 11, 12, 13, 14, 0x18];
 
+/// As many field bytes as a scene may have.
+const LONG: [u8; 128] = [0x18; 128];
+
+/// No image of a table of so many places has more bytes.
+pub const fn image_max(places: usize) -> usize {
+    171 * places + 8
+}
+
 /// A table, ours or the published one. A call answers its status.
 pub trait Side {
     fn add(&mut self, key: SceneKey) -> u8;
@@ -21,6 +29,12 @@ pub trait Side {
     fn info(&mut self, key: GroupKey) -> u8;
     fn notice(&mut self, endpoint: u16) -> u8;
     fn remove_fabric(&mut self, fabric: u8) -> u8;
+    /// Writes the image of the table into a buffer, from which a load takes it.
+    fn save(&mut self) -> u8;
+    fn load(&mut self) -> u8;
+    /// What was saved last, and an image in its place.
+    fn image(&self) -> Vec<u8>;
+    fn put_image(&mut self, image: &[u8]);
     /// Remembers the table as it stands, and makes it so again.
     fn keep(&mut self);
     fn restore(&mut self);
@@ -31,14 +45,36 @@ pub fn entry(i: usize) -> SceneKey {
     SceneKey { fabric: 1 + (i % 4) as u8, endpoint: 1, group: 1 + (i / 4 % 4) as u16, scene: 1 + (i / 16) as u8 }
 }
 
-/// A table of so many entries, with the last scene of each fabric as its current one.
-pub fn fill(side: &mut impl Side, entries: usize) {
+/// The image of so many entries with the most field bytes, and of no records: structures (0x15) in an array (0x36), each of numbers of a byte
+/// (0x24) or two (0x25) and an octet string (0x30), and 0x18 behind each container.
+fn long_image(entries: usize) -> Vec<u8> {
+    let mut image = vec![0x15, 0x36, 0];
     for i in 0..entries {
-        assert_eq!(side.add(entry(i)), 0);
+        let SceneKey { fabric, endpoint, group, scene } = entry(i);
+        image.extend([0x15, 0x24, 0, fabric, 0x24, 1, endpoint as u8]);
+        image.extend([0x24, 2, group as u8, 0x24, 3, scene, 0x25, 4]);
+        image.extend((TIME as u16).to_le_bytes());
+        image.extend([0x30, 5, LONG.len() as u8]);
+        image.extend(LONG);
+        image.push(0x18);
+    }
+    image.extend([0x18, 0x36, 1, 0x18, 0x18]);
+    image
+}
+
+/// A table of so many entries, with the last scene of each fabric as its current one, and its image. Long scenes are loaded, since the
+/// compiler makes one `add` of the Rust's slower where there is another.
+pub fn fill(side: &mut impl Side, entries: usize, long: bool) {
+    if long {
+        side.put_image(&long_image(entries));
+        assert_eq!(side.load(), 0);
+    } else {
+        (0..entries).for_each(|i| assert_eq!(side.add(entry(i)), 0));
     }
     for i in entries.saturating_sub(4)..entries {
         assert_eq!(side.store(entry(i)), 0);
     }
+    assert_eq!(side.save(), 0);
     side.keep();
 }
 
@@ -71,10 +107,13 @@ pub struct Row<S> {
     pub call: fn(&mut S, Plan) -> u8,
     /// Whether the table has to be made anew after it.
     pub writes: bool,
+    /// Whether it saves or loads: its cost then depends on how long the fields are.
+    pub image: bool,
 }
 
 pub fn rows<S: Side>() -> Vec<Row<S>> {
-    let row = |name, writes, call| Row { name, writes, call };
+    let row = |name, writes, call| Row { name, writes, image: false, call };
+    let image = |name, writes, call| Row { name, writes, image: true, call };
     vec![
         row("add, new", true, |s: &mut S, p: Plan| s.add(p.absent())),
         row("add, overwrite", true, |s, p| s.add(p.middle())),
@@ -93,5 +132,7 @@ pub fn rows<S: Side>() -> Vec<Row<S>> {
         row("info", false, |s, p| s.info(p.group())),
         row("notice", true, |s, _| s.notice(1)),
         row("fabric removal", true, |s, p| s.remove_fabric(p.middle().fabric)),
+        image("save", false, |s, _| s.save()),
+        image("load", true, |s, _| s.load()),
     ]
 }

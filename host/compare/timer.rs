@@ -9,6 +9,8 @@ use crate::rows::{Plan, Row, Side};
 /// A round is so many calls of one side and then of the other, so that a change of the machine's pace meets both.
 const CALLS: usize = 25;
 const ROUNDS: usize = 161;
+/// Of a save or a load, which take up to a thousand times as long.
+const IMAGE_ROUNDS: usize = 5;
 
 fn now() -> u64 {
     // SAFETY: every x86-64 processor has both.
@@ -56,10 +58,11 @@ impl Meter for Timer {
 
     fn pair<A: Side, B: Side>(&mut self, a: &mut A, b: &mut B, plan: Plan, ra: &Row<A>, rb: &Row<B>) -> (f64, f64) {
         let (mut ta, mut tb, mut idle) = (Vec::new(), Vec::new(), Vec::new());
+        let rounds = if ra.image { IMAGE_ROUNDS } else { ROUNDS };
         for warm in [true, false] {
             ta.clear();
             tb.clear();
-            for _ in 0..if warm { 4 } else { ROUNDS } {
+            for _ in 0..if warm { 4 } else { rounds } {
                 round(a, plan, ra.writes, ra.call, &mut ta);
                 round(b, plan, rb.writes, rb.call, &mut tb);
                 round(a, plan, false, |_, _| 0, &mut idle);

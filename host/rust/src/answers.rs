@@ -19,8 +19,12 @@ pub enum Error {
     Unsound = 6,
     /// A pair byte above 2.
     BadPair = 7,
-    /// The scene list buffer is shorter than the list.
-    ListTooLong = 8,
+    /// The buffer is shorter than the scene list, or than the image.
+    BufferTooShort = 8,
+    /// No image, or one of a larger table.
+    BadImage = 9,
+    /// An image with a key twice, with two records of a fabric, or with scene 0 or 255.
+    ClashingImage = 10,
     /// Not a member of the group; an attribute that is not scenable. A status of Matter, as the three below.
     InvalidCommand = 0x85,
     /// Scene 0 or 255; a time above 60,000,000.
@@ -32,7 +36,7 @@ pub enum Error {
 }
 
 impl Error {
-    const ALL: [Error; 12] = [
+    const ALL: [Error; 14] = [
         Error::NoFabric,
         Error::MembershipFailed,
         Error::CaptureTooLong,
@@ -40,7 +44,9 @@ impl Error {
         Error::SingleElement,
         Error::Unsound,
         Error::BadPair,
-        Error::ListTooLong,
+        Error::BufferTooShort,
+        Error::BadImage,
+        Error::ClashingImage,
         Error::InvalidCommand,
         Error::ConstraintError,
         Error::InsufficientSpace,
@@ -90,7 +96,9 @@ impl fmt::Display for Error {
             Error::SingleElement => "one list element was asked for",
             Error::Unsound => "the table is not sound",
             Error::BadPair => "a pair byte above 2",
-            Error::ListTooLong => "the list does not fit its buffer",
+            Error::BufferTooShort => "the buffer is too short",
+            Error::BadImage => "no image of a table of this size",
+            Error::ClashingImage => "an image that contradicts itself",
             Error::InvalidCommand => "not in the group, or not scenable",
             Error::ConstraintError => "a scene id or a time out of range",
             Error::InsufficientSpace => "no room",

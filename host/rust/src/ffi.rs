@@ -60,6 +60,14 @@ pub(crate) struct InfoRead {
 
 #[repr(C)]
 #[derive(Clone, Copy)]
+pub(crate) struct ImageSaved {
+    pub state: State,
+    pub status: u8,
+    pub len: usize,
+}
+
+#[repr(C)]
+#[derive(Clone, Copy)]
 pub(crate) struct FieldBytes {
     pub offset: usize,
     pub len: usize,
@@ -144,6 +152,7 @@ calls! { Lent, as_ptr, read:
         = scenes_get_membership(ids.as_mut_ptr() => *mut u8, ids.len() => usize, key => GroupKey, member => u8);
     fn read_info(fabric: u8, endpoint: u16, single: u8) -> InfoRead = scenes_read_info(fabric => u8, endpoint => u16, single => u8);
     fn field_bytes(at: usize) -> FieldBytes = scenes_field_bytes(at => usize);
+    fn save_image(buffer: &mut [u8]) -> ImageSaved = scenes_save_image(buffer.as_mut_ptr() => *mut u8, buffer.len() => usize);
     fn factory_reset() -> Outcome = scenes_factory_reset();
     fn startup() -> Outcome = scenes_startup();
     fn fail_safe_commit() -> Outcome = scenes_fail_safe_commit();
@@ -166,4 +175,5 @@ calls! { LentMut, as_mut_ptr, write:
         = scenes_copy(request => CopyRequest, source => u8, target => u8);
     fn attribute_changed(endpoint: u16) -> Outcome = scenes_attribute_changed(endpoint => u16);
     fn remove_fabric(fabric: u8) -> Outcome = scenes_remove_fabric(fabric => u8);
+    fn load_image(image: &[u8]) -> Outcome = scenes_load_image(image.as_ptr() => *const u8, image.len() => usize);
 }

@@ -33,4 +33,4 @@ mod tests;
 
 pub use answers::{Done, Error, InfoRow, Scene, SceneList};
 pub use requests::{pair, Applied, CopyRequest, GroupKey, GroupScene, Membership, SceneKey, Transition};
-pub use table::{library_version, Image, Scenes, MAX_FIELDS, MAX_SCENES, MAX_TIME, STRIDE, VERSION};
+pub use table::{image_max, library_version, Memory, Scenes, MAX_FIELDS, MAX_SCENES, MAX_TIME, STRIDE, VERSION};

@@ -4,7 +4,7 @@ use crate::ffi::{self, Lent, LentMut, Outcome, SceneRead, State};
 use crate::requests::{Applied, CopyRequest, GroupKey, Membership, SceneKey, Transition};
 
 /// The version of the interface that this crate is for. It steps whenever a struct, an answer or a call of the library changes.
-pub const VERSION: u32 = 2;
+pub const VERSION: u32 = 3;
 
 /// The version of the library that was linked: [`VERSION`], unless the crate was linked with another's.
 ///
@@ -24,12 +24,22 @@ pub const MAX_FIELDS: usize = 128;
 /// The bytes that an entry's fields take: a length, then room for [`MAX_FIELDS`].
 pub const STRIDE: usize = 129;
 
+/// No image of a table of so many places has more bytes.
+///
+/// ```
+/// assert_eq!(scenes::image_max(16), 2744);
+/// ```
+pub const fn image_max(places: usize) -> usize {
+    171 * places + 8
+}
+
 /// The longest transition time, in milliseconds.
 pub const MAX_TIME: u32 = 60_000_000;
 
-/// All that a table is, as a host saves it.
+/// All that a table is: its head but for N, and its memory as it lies. What a host keeps over a power failure is the image that
+/// [`save`](Scenes::save) writes.
 #[derive(Clone, Debug, PartialEq, Eq)]
-pub struct Image<const N: usize> {
+pub struct Memory<const N: usize> {
     /// How many scenes there are.
     pub entries: usize,
     /// How many fabrics have a current scene.
@@ -53,7 +63,7 @@ pub struct Image<const N: usize> {
 /// ```
 #[derive(Clone, Debug, PartialEq, Eq)]
 pub struct Scenes<const N: usize> {
-    pub(crate) image: Image<N>,
+    pub(crate) memory: Memory<N>,
 }
 
 impl<const N: usize> Default for Scenes<N> {
@@ -74,23 +84,23 @@ impl<const N: usize> Scenes<N> {
     pub fn new() -> Self {
         let () = Self::FITS;
         let State { entries, recorded, dataver, .. } = ffi::new(N);
-        let image = Image { entries, recorded, dataver, keys: [0; N], times: [0; N], fields: [[0; STRIDE]; N], records: [0; N] };
-        Scenes { image }
+        let memory = Memory { entries, recorded, dataver, keys: [0; N], times: [0; N], fields: [[0; STRIDE]; N], records: [0; N] };
+        Scenes { memory }
     }
 
-    /// The table that was saved. [`Error::Unsound`] if the image is not one of a table.
+    /// The table in memory that was copied. [`Error::Unsound`] if it is not that of a table.
     ///
     /// ```
     /// use scenes::{Error, Scenes};
     ///
-    /// let mut image = Scenes::<16>::new().image().clone();
-    /// assert!(Scenes::restore(image.clone()).is_ok());
-    /// image.entries = 17;
-    /// assert_eq!(Scenes::restore(image), Err(Error::Unsound));
+    /// let mut memory = Scenes::<16>::new().memory().clone();
+    /// assert!(Scenes::from_memory(memory.clone()).is_ok());
+    /// memory.entries = 17;
+    /// assert_eq!(Scenes::from_memory(memory), Err(Error::Unsound));
     /// ```
-    pub fn restore(image: Image<N>) -> Result<Self, Error> {
+    pub fn from_memory(memory: Memory<N>) -> Result<Self, Error> {
         let () = Self::FITS;
-        let table = Scenes { image };
+        let table = Scenes { memory };
         if table.is_sound() {
             Ok(table)
         } else {
@@ -98,24 +108,70 @@ impl<const N: usize> Scenes<N> {
         }
     }
 
-    /// What to save.
-    pub fn image(&self) -> &Image<N> {
-        &self.image
+    /// The table's memory, as it lies.
+    pub fn memory(&self) -> &Memory<N> {
+        &self.memory
+    }
+
+    /// No image of this table has more bytes.
+    pub const IMAGE_MAX: usize = image_max(N);
+
+    /// Writes the table's image, which is what rs-matter saves, into the front of a buffer. [`IMAGE_MAX`](Scenes::IMAGE_MAX) bytes are
+    /// always enough; in a shorter buffer that it does not fit nothing is written.
+    ///
+    /// ```
+    /// use scenes::{Error, Membership, SceneKey, Scenes};
+    ///
+    /// let mut table = Scenes::<16>::new();
+    /// let key = SceneKey { fabric: 1, endpoint: 1, group: 0, scene: 5 };
+    /// table.store(key, Membership::Yes, b"")?;
+    /// let mut buffer = [0; Scenes::<16>::IMAGE_MAX];
+    /// let image = table.save(&mut buffer)?;
+    ///
+    /// let mut other = Scenes::<16>::new();
+    /// other.load(image)?;
+    /// assert_eq!(other.view(key, Membership::Yes), table.view(key, Membership::Yes));
+    /// assert_eq!(table.save(&mut [0; 4]), Err(Error::BufferTooShort));
+    /// # Ok::<(), Error>(())
+    /// ```
+    pub fn save<'a>(&self, buffer: &'a mut [u8]) -> Result<&'a [u8], Error> {
+        let saved = ffi::save_image(self.state(), self.lent(), buffer);
+        if saved.status != 0 {
+            return Err(Error::of(saved.status));
+        }
+        Ok(buffer.get(..saved.len).unwrap_or(&[]))
+    }
+
+    /// Replaces the scenes and the records by those of an image, in order, and steps the data version. Whatever the bytes are: what is
+    /// no image of a table of this size is refused, and changes nothing.
+    ///
+    /// ```
+    /// use scenes::{Error, Scenes};
+    ///
+    /// let mut table = Scenes::<16>::new();
+    /// assert_eq!(table.load(b"\x15\x36\x00\x18"), Err(Error::BadImage));
+    /// assert!(table.load(b"\x15\x36\x00\x18\x36\x01\x18\x18").is_ok());
+    /// assert_eq!((table.entries(), table.data_version()), (0, 1));
+    /// ```
+    pub fn load(&mut self, image: &[u8]) -> Result<Done, Error> {
+        let (state, lent) = self.lend();
+        let done = ffi::load_image(state, lent, image);
+        self.done(done)
     }
 
     /// How many scenes there are.
     pub fn entries(&self) -> usize {
-        self.image.entries
+        self.memory.entries
     }
 
     /// How many fabrics have a current scene.
     pub fn recorded(&self) -> usize {
-        self.image.recorded
+        self.memory.recorded
     }
 
     /// The data version of FabricSceneInfo.
     pub fn data_version(&self) -> u32 {
-        self.image.dataver
+        self.memory.dataver
     }
 
     /// Whether the table is sound: it is, since only the table's own calls write its memory.
@@ -318,7 +374,7 @@ impl<const N: usize> Scenes<N> {
     /// ```
     pub fn field_bytes(&self, at: usize) -> &[u8] {
         let found = ffi::field_bytes(self.state(), self.lent(), at);
-        let bytes = self.image.fields.as_flattened();
+        let bytes = self.memory.fields.as_flattened();
         bytes.get(found.offset..).and_then(|rest| rest.get(..found.len)).unwrap_or(&[])
     }
 
@@ -372,27 +428,27 @@ impl<const N: usize> Scenes<N> {
     }
 
     pub(crate) fn state(&self) -> State {
-        let Image { entries, recorded, dataver, .. } = self.image;
+        let Memory { entries, recorded, dataver, .. } = self.memory;
         State { size: N, entries, recorded, dataver }
     }
 
     pub(crate) fn lent(&self) -> Lent<'_> {
-        let image = &self.image;
-        Lent { keys: &image.keys, times: &image.times, fields: image.fields.as_flattened(), records: &image.records }
+        let memory = &self.memory;
+        Lent { keys: &memory.keys, times: &memory.times, fields: memory.fields.as_flattened(), records: &memory.records }
     }
 
     fn lend(&mut self) -> (State, LentMut<'_>) {
         let state = self.state();
-        let image = &mut self.image;
-        let fields = image.fields.as_flattened_mut();
-        (state, LentMut { keys: &mut image.keys, times: &mut image.times, fields, records: &mut image.records })
+        let memory = &mut self.memory;
+        let fields = memory.fields.as_flattened_mut();
+        (state, LentMut { keys: &mut memory.keys, times: &mut memory.times, fields, records: &mut memory.records })
     }
 
     // Keeps the head that came back, of refusals too: a whole-group copy that ran out has changed it.
     fn done(&mut self, outcome: Outcome) -> Result<Done, Error> {
-        self.image.entries = outcome.state.entries;
-        self.image.recorded = outcome.state.recorded;
-        self.image.dataver = outcome.state.dataver;
+        self.memory.entries = outcome.state.entries;
+        self.memory.recorded = outcome.state.recorded;
+        self.memory.dataver = outcome.state.dataver;
         if outcome.status == 0 {
             Ok(Done { save: outcome.save != 0 })
         } else {
@@ -404,7 +460,7 @@ impl<const N: usize> Scenes<N> {
         if read.status != 0 {
             return Err(Error::of(read.status));
         }
-        let bytes = self.image.fields.get(read.at).and_then(|entry| entry[1..].get(..read.len));
+        let bytes = self.memory.fields.get(read.at).and_then(|entry| entry[1..].get(..read.len));
         Ok(Scene { time: read.time, at: read.at, fields: bytes.unwrap_or(&[]) })
     }
 }

@@ -1,7 +1,7 @@
 //! What nothing checks across the boundary: layouts, arguments, lengths; and a table whose memory was damaged.
 // The digits of a key word are grouped by its parts.
 #![allow(clippy::unusual_byte_groupings)]
-use crate::ffi::{self, FieldBytes, InfoRead, Lent, LentMut, ListRead, Outcome, SceneRead, State};
+use crate::ffi::{self, FieldBytes, ImageSaved, InfoRead, Lent, LentMut, ListRead, Outcome, SceneRead, State};
 use crate::*;
 use core::mem::{offset_of, size_of};
 
@@ -25,12 +25,14 @@ fn layouts_are_those_of_the_header() {
     assert_eq!((size_of::<InfoRead>(), offset_of!(InfoRead, status), offset_of!(InfoRead, present)), (48, 32, 33));
     assert_eq!((offset_of!(InfoRead, count), offset_of!(InfoRead, group), offset_of!(InfoRead, scene)), (34, 36, 38));
     assert_eq!((offset_of!(InfoRead, valid), offset_of!(InfoRead, remaining), offset_of!(InfoRead, fabric)), (39, 40, 41));
+    assert_eq!((size_of::<ImageSaved>(), offset_of!(ImageSaved, status), offset_of!(ImageSaved, len)), (48, 32, 40));
+    assert_eq!(offset_of!(ImageSaved, state), 0);
     assert_eq!((size_of::<FieldBytes>(), offset_of!(FieldBytes, offset), offset_of!(FieldBytes, len)), (16, 0, 8));
 }
 
 #[test]
 fn the_memory_of_a_table_is_its_arrays() {
-    assert_eq!(size_of::<Image<16>>(), 16 * (8 + 4 + 129 + 8) + 24);
+    assert_eq!(size_of::<Memory<16>>(), 16 * (8 + 4 + 129 + 8) + 24);
     assert_eq!(Scenes::<16>::new().lent().fields.len(), 16 * STRIDE);
 }
 
@@ -47,19 +49,19 @@ fn two() -> Scenes<16> {
 // Every part of a key has another byte, so that a part at the wrong place would show.
 #[test]
 fn keys_and_times_arrive_whole() {
-    let image = two().image;
-    assert_eq!(image.keys[..2], [0x12_3456_789A_BC, 0x34_5678_9ABC_DE]);
-    assert_eq!(image.times[..2], [0, 0x0123_4567 >> 1]);
-    assert_eq!(image.fields[0][..5], [4, 1, 2, 3, 0x18]);
-    assert_eq!(image.fields[1][..], [&[128][..], &[7; 128]].concat());
-    assert_eq!(image.records[0], 0x1_12_3456_789A_BC);
-    assert_eq!((image.entries, image.recorded, image.dataver), (2, 1, 1));
+    let memory = two().memory;
+    assert_eq!(memory.keys[..2], [0x12_3456_789A_BC, 0x34_5678_9ABC_DE]);
+    assert_eq!(memory.times[..2], [0, 0x0123_4567 >> 1]);
+    assert_eq!(memory.fields[0][..5], [4, 1, 2, 3, 0x18]);
+    assert_eq!(memory.fields[1][..], [&[128][..], &[7; 128]].concat());
+    assert_eq!(memory.records[0], 0x1_12_3456_789A_BC);
+    assert_eq!((memory.entries, memory.recorded, memory.dataver), (2, 1, 1));
 }
 
 #[test]
 fn the_head_comes_back_whole() {
     let mut table = two();
-    table.image.dataver = u32::MAX;
+    table.memory.dataver = u32::MAX;
     let read = ffi::view(table.state(), table.lent(), SceneKey { fabric: 9, endpoint: 9, group: 0, scene: 9 }, 1);
     assert_eq!((read.status, read.time, read.at, read.len), (0x8B, 0, MAX_SCENES, 0));
     assert_eq!(read.state, State { size: 16, entries: 2, recorded: 1, dataver: u32::MAX });
@@ -89,8 +91,8 @@ fn a_copy_arrives_whole() {
     let to = GroupScene { group: 0xFEDC, scene: 0xA9 };
     let request = CopyRequest { fabric: 0x12, endpoint: 0x3456, mode: 0xF0, from, to };
     assert_eq!(table.copy(request, Membership::Yes, Membership::Yes), Ok(Done { save: true }));
-    assert_eq!(table.image.keys[2], 0x12_3456_FEDC_A9);
-    assert_eq!(table.image.fields[2], table.image.fields[0]);
+    assert_eq!(table.memory.keys[2], 0x12_3456_FEDC_A9);
+    assert_eq!(table.memory.fields[2], table.memory.fields[0]);
 }
 
 // What each number means that is no name in Rust.
@@ -108,13 +110,13 @@ fn every_number_means_something() {
     }
     for applied in 0..=255 {
         let mut copy = two();
-        let image = &mut copy.image;
+        let memory = &mut copy.memory;
         let state = State { size: 16, entries: 2, recorded: 1, dataver: 1 };
         let lent = LentMut {
-            keys: &mut image.keys,
-            times: &mut image.times,
-            fields: image.fields.as_flattened_mut(),
-            records: &mut image.records,
+            keys: &mut memory.keys,
+            times: &mut memory.times,
+            fields: memory.fields.as_flattened_mut(),
+            records: &mut memory.records,
         };
         assert_eq!(ffi::recall(state, lent, key, 1, applied).status, if applied == 1 { 0 } else { 4 });
     }
@@ -140,19 +142,19 @@ fn lengths_arrive() {
 
 // What makes memory unsound, one after the other.
 fn damaged() -> [Scenes<16>; 8] {
-    let damages: [fn(&mut Image<16>); 8] = [
-        |image| image.entries = 17,
-        |image| image.recorded = 17,
-        |image| image.keys[1] = 1 << 48,
-        |image| image.keys[1] = 5,
-        |image| image.fields[0][0] = 129,
-        |image| image.records[0] = 1 << 49,
-        |image| image.records[0] = 1 << 48,
-        |image| image.entries = usize::MAX,
+    let damages: [fn(&mut Memory<16>); 8] = [
+        |memory| memory.entries = 17,
+        |memory| memory.recorded = 17,
+        |memory| memory.keys[1] = 1 << 48,
+        |memory| memory.keys[1] = 5,
+        |memory| memory.fields[0][0] = 129,
+        |memory| memory.records[0] = 1 << 49,
+        |memory| memory.records[0] = 1 << 48,
+        |memory| memory.entries = usize::MAX,
     ];
     damages.map(|damage| {
         let mut table = two();
-        damage(&mut table.image);
+        damage(&mut table.memory);
         table
     })
 }
@@ -168,7 +170,7 @@ fn a_damaged_table_is_refused_by_every_call() {
         let request = CopyRequest { fabric: 0, endpoint: 0, mode: 0, from: end, to: end };
         let unsound = Err(Error::Unsound);
         assert!(!table.is_sound());
-        assert_eq!(Scenes::restore(before.image.clone()), Err(Error::Unsound));
+        assert_eq!(Scenes::from_memory(before.memory.clone()), Err(Error::Unsound));
         assert_eq!(table.add(key, 0, Membership::Failed, &[9], &[0; 200]), unsound);
         assert_eq!(table.store(key, Membership::Failed, &[0; 200]), unsound);
         assert_eq!(table.view(key, Membership::Failed), Err(Error::Unsound));
@@ -184,6 +186,8 @@ fn a_damaged_table_is_refused_by_every_call() {
         assert_eq!(table.remove_fabric(0), unsound);
         assert_eq!(table.factory_reset(), unsound);
         assert_eq!(table.startup(), unsound);
+        assert_eq!(table.save(&mut []), Err(Error::Unsound));
+        assert_eq!(table.load(&[]), unsound);
         assert_eq!(table.fail_safe_commit(), unsound);
         assert_eq!(table.fail_safe_expiry(), unsound);
         assert_eq!(table, before);
@@ -192,7 +196,7 @@ fn a_damaged_table_is_refused_by_every_call() {
 
 #[test]
 fn refusals_have_their_numbers() {
-    let numbers = [1, 2, 3, 4, 5, 6, 7, 8, 0x85, 0x87, 0x89, 0x8B];
+    let numbers = [1, 2, 3, 4, 5, 6, 7, 8, 9, 10, 0x85, 0x87, 0x89, 0x8B];
     for number in numbers {
         assert_eq!(Error::of(number).number(), number);
     }

@@ -223,9 +223,78 @@ fn lifecycle() {
 }
 
 #[test]
-fn a_saved_table_comes_back() {
+fn memory_that_was_copied_comes_back() {
     let table = with::<16>(&[5, 6, 7]);
-    assert_eq!(Scenes::restore(table.image().clone()), Ok(table));
+    assert_eq!(Scenes::from_memory(table.memory().clone()), Ok(table));
+}
+
+// Entries, records and their order, in a table that holds others; and the bytes again.
+#[test]
+fn a_saved_table_comes_back() {
+    let table = &mut with::<16>(&[5, 6, 7]);
+    assert_eq!(table.store(key(2, 1, 9), YES, &[1, 2, 3]), SAVED);
+    assert_eq!(table.recall(key(1, 1, 6), YES, Applied::Yes), SAVED);
+    let (mut first, mut again) = ([0xEE; Scenes::<16>::IMAGE_MAX], [0; Scenes::<16>::IMAGE_MAX]);
+    let image = table.save(&mut first).unwrap();
+    let other = &mut with::<16>(&[1, 2, 3, 4, 5, 6]);
+    assert_eq!(other.load(image), UNSAVED);
+    assert_eq!((other.entries(), other.recorded(), other.data_version()), (4, 2, 1));
+    for scene in [key(1, 1, 5), key(1, 1, 6), key(1, 1, 7), key(2, 1, 9)] {
+        assert_eq!(other.view(scene, YES), table.view(scene, YES));
+    }
+    assert_eq!(other.read_info(1, 1, false), table.read_info(1, 1, false));
+    assert_eq!(other.save(&mut again), Ok(image));
+}
+
+#[test]
+fn save() {
+    let table = &mut with::<16>(&[5, 6]);
+    let len = table.save(&mut [0; Scenes::<16>::IMAGE_MAX]).unwrap().len();
+    for room in 0..len {
+        let mut buffer = [0xEE; Scenes::<16>::IMAGE_MAX];
+        assert_eq!(table.save(&mut buffer[..room]), Err(Error::BufferTooShort));
+        assert_eq!(buffer, [0xEE; Scenes::<16>::IMAGE_MAX]);
+    }
+    let mut buffer = [0xEE; Scenes::<16>::IMAGE_MAX];
+    assert_eq!(table.save(&mut buffer).map(<[u8]>::len), Ok(len));
+    assert!(buffer[len..].iter().all(|&b| b == 0xEE));
+}
+
+// Every cut of an image, every byte of it changed: a number or a table, and after a number the very table.
+#[test]
+fn load() {
+    let table = &mut with::<16>(&[5, 6]);
+    let mut buffer = [0; Scenes::<16>::IMAGE_MAX];
+    let image = table.save(&mut buffer).unwrap().to_vec();
+    for end in 0..image.len() - 1 {
+        refused(table, 9, |t| t.load(&image[..end]));
+    }
+    let mut taken = 0;
+    for at in 0..image.len() {
+        for byte in 0..=255 {
+            let mut damaged = image.clone();
+            damaged[at] = byte;
+            let mut after = table.clone();
+            match after.load(&damaged) {
+                Ok(done) => {
+                    assert_eq!((done.save, after.is_sound(), after.data_version()), (false, true, 1));
+                    taken += 1;
+                }
+                Err(error) => {
+                    assert!(matches!(error.number(), 9 | 10));
+                    assert_eq!(after, *table);
+                }
+            }
+        }
+    }
+    assert!(taken > 256);
+    refused(&mut Scenes::<1>::new(), 9, |t| t.load(&image));
+    let scene = |id: u8| [0x15, 0x24, 0, 1, 0x24, 1, 1, 0x24, 2, 0, 0x24, 3, id, 0x24, 4, 0, 0x30, 5, 0, 0x18];
+    let twice = |a: u8, b: u8| [&[0x15, 0x36, 0][..], &scene(a), &scene(b), &[0x18, 0x36, 1, 0x18, 0x18]].concat();
+    assert_eq!(table.load(&twice(5, 6)), UNSAVED);
+    for (a, b) in [(5, 5), (0, 6), (5, 255)] {
+        refused(table, 10, |t| t.load(&twice(a, b)));
+    }
 }
 
 #[test]
