@@ -1,8 +1,8 @@
 //! Stand-in for the crate `rs-matter-macros`: `#[derive(FromTLV)]` and `#[derive(ToTLV)]` on a
 //! struct with named fields and no generics (all that scenes.rs asks for: `CurrentScene`).
 //!
-//! The struct is a TLV structure, field number i (from 0) stands under context tag i. The reading
-//! side is compiled but never run: no saved table is loaded here.
+//! The struct is a TLV structure, field number i (from 0) stands under context tag i. It is read with its members in
+//! any order, or with `--ordered` in the order of their tags: the published derive is not at hand.
 extern crate proc_macro;
 use proc_macro::{Delimiter, TokenStream, TokenTree};
 
@@ -50,13 +50,21 @@ pub fn from_tlv(input: TokenStream) -> TokenStream {
     for (tag, (f, ty)) in fields.iter().enumerate() {
         inits.push_str(&format!(
             "{f}: <{ty} as ::rs_matter_tlv::FromTLV<'__a>>::from_tlv(
-                &seq.scan_ctx({tag}u8)?)?,\n"
+                &member(&mut seq, {tag}u8)?)?,\n"
         ));
     }
     format!(
         "impl<'__a> ::rs_matter_tlv::FromTLV<'__a> for {name} {{
             fn from_tlv(element: &::rs_matter_tlv::TLVElement<'__a>)
                 -> Result<Self, ::rs_matter_tlv::__private::Error> {{
+                fn member<'__b>(seq: &mut ::rs_matter_tlv::TLVSequence<'__b>, tag: u8)
+                    -> Result<::rs_matter_tlv::TLVElement<'__b>, ::rs_matter_tlv::__private::Error> {{
+                    if ::rs_matter_tlv::oracle::is_read_in_order() {{
+                        seq.scan_ctx(tag)
+                    }} else {{
+                        seq.find_ctx(tag)
+                    }}
+                }}
                 let mut seq = element.r#struct()?;
                 Ok(Self {{ {inits} }})
             }}

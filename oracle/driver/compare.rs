@@ -30,8 +30,14 @@ fn our_line(line: &str, answer: &str) -> String {
 /// The script for our program.
 pub fn our_script(script: &[String], oracle: &mut Lines<'_>) -> Vec<String> {
     let mut ours = Vec::with_capacity(script.len());
+    let mut image = "-";
     for (at, line) in script.iter().enumerate() {
-        ours.push(our_line(line, oracle.take().unwrap_or("")));
+        let answer = oracle.take().unwrap_or("");
+        if line == "P" {
+            image = answer.rsplit(' ').next().unwrap_or("-");
+        }
+        // Our program is given the image that the Rust wrote.
+        ours.push(if line == "G !" { format!("G {image}") } else { our_line(line, answer) });
         if is_dumped(script, at) {
             oracle.take_dump();
         }

@@ -1,5 +1,6 @@
 //! Scripts from a seed, in the language of ../README.md.
 use crate::fields::{self, hex};
+use crate::images::{self, Entry, Record};
 use crate::random::Random;
 use crate::sizes;
 
@@ -346,13 +347,91 @@ fn large_grown(random: &mut Random) -> Vec<String> {
     script
 }
 
+/// Keys of an image: now and then one is there twice, or is one that no command may name.
+fn image_keys(random: &mut Random, u: &Universe, count: usize) -> Vec<Key> {
+    let repeats = random.percent(12);
+    let mut keys: Vec<Key> = Vec::new();
+    for at in 0..count {
+        let mut key = u.any(random);
+        if !repeats {
+            // No two are the same.
+            key.scene = 1 + (at % 254) as u8;
+            key.endpoint = key.endpoint / 8 * 8 + (at / 254) as u16;
+        }
+        keys.push(key);
+    }
+    keys
+}
+
+/// An image of a table of about this size.
+fn image(random: &mut Random, u: &mut Universe, size: usize) -> Vec<u8> {
+    let most = if random.percent(5) { size + 1 } else { size };
+    let count = filled(random, most).min(random.pick(&[1, 2, 3, 5, 12, 12, 2000]));
+    let keys = image_keys(random, u, count);
+    u.written.extend(&keys);
+    let long = random.percent(4);
+    let entries: Vec<Entry> = keys
+        .iter()
+        .map(|&Key { fabric, endpoint, group, scene }| {
+            let mut fields = fields::held(random);
+            if long && random.percent(30) {
+                fields.resize(random.pick(&[127, 128, 129, 200]), 7);
+            }
+            let time = if random.percent(70) { raw_time(random) } else { random.pick(&[0, 255, 256, 65535, 65536, u32::MAX]) };
+            Entry { fabric, endpoint, group, scene, time, fields }
+        })
+        .collect();
+    let owners = filled(random, most).min(random.pick(&[0, 1, 1, 2, 3, 254]));
+    let distinct = random.percent(88);
+    let records: Vec<Record> = (0..owners)
+        .map(|at| {
+            let Key { fabric, endpoint, group, scene } = u.any(random);
+            let (fabric, scene) = if distinct { (1 + (at % 255) as u8, scene.clamp(1, 254)) } else { (fabric, scene) };
+            Record { fabric, endpoint, group, scene, valid: random.percent(70) }
+        })
+        .collect();
+    images::image(random, &entries, &records)
+}
+
+/// Images loaded one after the other, with calls between them; the table is saved, changed and loaded again.
+fn imaged(random: &mut Random, sizes: &[usize], lines: usize) -> Vec<String> {
+    let size = random.pick(sizes);
+    let mut u = Universe::new(random);
+    let mut script = vec![format!("N {size}")];
+    if random.percent(30) {
+        script.push(version(random));
+    }
+    let mut saved = false;
+    for _ in 0..lines {
+        match random.below(20) {
+            0..14 => script.push(format!("G {}", hex(&image(random, &mut u, size)))),
+            14..16 => {
+                script.push("P".into());
+                saved = true;
+            }
+            16 if saved => script.push("G !".into()),
+            _ => script.push(call(random, &mut u, SMALL_CALLS)),
+        }
+    }
+    script
+}
+
+/// A script of images alone, for a seed and an index.
+pub fn images(seed: u64, index: u64) -> Vec<String> {
+    let mut random = Random::new(seed, index);
+    let large = random.below(250) == 0;
+    imaged(&mut random, if large { &sizes::LARGE } else { &sizes::SMALL }, if large { 4 } else { 30 })
+}
+
 /// The script of a seed and an index.
 pub fn script(seed: u64, index: u64) -> Vec<String> {
     let mut random = Random::new(seed, index);
     match random.below(1000) {
-        0..900 => small(&mut random),
-        900..940 => crowded(&mut random),
-        940..990 => large_raw(&mut random),
-        _ => large_grown(&mut random),
+        0..700 => small(&mut random),
+        700..740 => crowded(&mut random),
+        740..780 => large_raw(&mut random),
+        780..790 => large_grown(&mut random),
+        790..799 => imaged(&mut random, &sizes::LARGE, 5),
+        _ => imaged(&mut random, &sizes::SMALL, 20),
     }
 }

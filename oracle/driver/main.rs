@@ -2,6 +2,7 @@
 mod compare;
 mod fields;
 mod generate;
+mod images;
 mod random;
 mod record;
 mod run;
@@ -41,20 +42,23 @@ fn joined(scripts: &[Vec<String>]) -> String {
     scripts.iter().map(|script| run::text(script)).collect()
 }
 
+/// What makes the script of a seed and an index: any, or one of images.
+type Scripts = fn(u64, u64) -> Vec<String>;
+
 /// The scripts of a seed from an index on. A large table counts for more calls: its dumps are long.
-fn scripts_from(seed: u64, first: u64) -> Vec<Vec<String>> {
+fn scripts_from(make: Scripts, seed: u64, first: u64) -> Vec<Vec<String>> {
     let mut scripts = Vec::new();
     let mut cost = 0;
     while cost < BATCH {
-        let script = generate::script(seed, first + scripts.len() as u64);
+        let script = make(seed, first + scripts.len() as u64);
         cost += if script.len() > 100 { 10 * script.len() / 8 } else { script.len() };
         scripts.push(script);
     }
     scripts
 }
 
-fn asked(oracle: &str, seed: u64, first: u64) -> Result<Batch, String> {
-    let scripts = scripts_from(seed, first);
+fn asked(oracle: &str, make: Scripts, seed: u64, first: u64) -> Result<Batch, String> {
+    let scripts = scripts_from(make, seed, first);
     let oracle_wrote = run::run(oracle, joined(&scripts))?;
     let mut lines = Lines(&oracle_wrote);
     let ours = scripts.iter().map(|script| compare::our_script(script, &mut lines)).collect();
@@ -62,12 +66,12 @@ fn asked(oracle: &str, seed: u64, first: u64) -> Result<Batch, String> {
 }
 
 /// Batches, made by a second thread while our program runs.
-fn batches(oracle: String, seed: u64) -> Receiver<Result<Batch, String>> {
+fn batches(oracle: String, make: Scripts, seed: u64) -> Receiver<Result<Batch, String>> {
     let (send, receive) = sync_channel(1);
     std::thread::spawn(move || {
         let mut first = 0;
         loop {
-            let batch = asked(&oracle, seed, first);
+            let batch = asked(&oracle, make, seed, first);
             first += batch.as_ref().map_or(0, |b| b.scripts.len() as u64);
             if send.send(batch).is_err() {
                 return;
@@ -111,8 +115,11 @@ fn compare_batch(programs: &Programs, seed: u64, batch: &Batch, tally: &mut Tall
 }
 
 /// Whether every answer was met often enough.
-fn complete(tally: &Tally, calls: u64) -> bool {
-    let missing = tally.missing(WANTED);
+fn complete(tally: &Tally, calls: u64, images: bool) -> bool {
+    let mut missing = tally.missing(WANTED);
+    if images {
+        missing.retain(|answer| answer.starts_with(['P', 'G']));
+    }
     if missing.is_empty() {
         println!("every answer of every call was met at least {WANTED} times");
         return true;
@@ -125,11 +132,13 @@ fn complete(tally: &Tally, calls: u64) -> bool {
     calls < COMPLETE
 }
 
-fn differential(programs: &Programs, seed: u64, calls: u64) -> bool {
+/// Compares so many calls, or so many images.
+fn differential(programs: &Programs, seed: u64, wanted: u64, images: bool) -> bool {
     let start = Instant::now();
     let mut tally = Tally::default();
-    let batches = batches(programs.oracle.clone(), seed);
-    while tally.calls < calls {
+    let make: Scripts = if images { generate::images } else { generate::script };
+    let batches = batches(programs.oracle.clone(), make, seed);
+    while wanted > if images { tally.images } else { tally.calls } {
         match batches.recv() {
             Ok(Ok(batch)) => compare_batch(programs, seed, &batch, &mut tally),
             Ok(Err(what)) => fail(&what),
@@ -138,8 +147,39 @@ fn differential(programs: &Programs, seed: u64, calls: u64) -> bool {
     }
     tally.print();
     let seconds = start.elapsed().as_secs();
-    println!("seed {seed}: {} calls in {} scripts, no difference, {seconds} s", tally.calls, tally.scripts);
-    complete(&tally, calls)
+    let Tally { calls, images: loads, scripts, .. } = tally;
+    println!("seed {seed}: {calls} calls in {scripts} scripts, {loads} of them loads of an image, no difference, {seconds} s");
+    complete(&tally, wanted, images)
+}
+
+/// Counts the images that the Rust takes with the members of a record in any order, and not with them in the order of their
+/// tags: the derive that decides this is not at hand.
+fn orders(oracle: &str, seed: u64, wanted: u64) -> Result<(), String> {
+    let (mut images, mut taken, mut refused, mut index) = (0, 0, 0, 0);
+    while images < wanted {
+        let mut text = String::new();
+        for _ in 0..200 {
+            let script = generate::images(seed, index);
+            // Each image on a table of its own.
+            for image in script.iter().filter(|line| line.starts_with("G ") && *line != "G !") {
+                text.push_str(&format!("{}\n{image}\n", script[0]));
+            }
+            index += 1;
+        }
+        let any = run::run(oracle, text.clone())?;
+        let ordered = run::run_with(oracle, &["--ordered"], text)?;
+        let status = |line: &str| line.split(' ').nth(1).unwrap_or("").to_string();
+        let (mut any, mut ordered) = (Lines(&any), Lines(&ordered));
+        while let (Some(a), Some(o)) = (any.take(), ordered.take()) {
+            if a.starts_with('G') {
+                images += 1;
+                taken += (status(a) == "00") as u64;
+                refused += (status(a) != status(o)) as u64;
+            }
+        }
+    }
+    println!("seed {seed}: {images} images, {taken} of them taken with a record's members in any order, {refused} answered otherwise in order");
+    Ok(())
 }
 
 fn number(words: &[String], at: usize, name: &str) -> u64 {
@@ -152,13 +192,17 @@ fn main() {
     let done = match word(0).as_str() {
         "compare" => {
             let programs = Programs { oracle: word(1), ours: word(2) };
-            differential(&programs, number(&words, 3, "seed"), number(&words, 4, "calls"))
+            differential(&programs, number(&words, 3, "seed"), number(&words, 4, "calls"), word(5) == "images")
         }
+        "orders" => match orders(&word(1), number(&words, 2, "seed"), number(&words, 3, "images")) {
+            Ok(()) => true,
+            Err(what) => fail(&what),
+        },
         "record" => match record::record(&word(1), number(&words, 2, "seed"), &word(3), &word(4)) {
             Ok(()) => true,
             Err(what) => fail(&what),
         },
-        _ => fail("usage: driver compare ORACLE OURS SEED CALLS, or driver record ORACLE SEED STDIN STDOUT"),
+        _ => fail("usage: driver compare ORACLE OURS SEED CALLS [images], driver orders ORACLE SEED IMAGES, or driver record ORACLE SEED STDIN STDOUT"),
     };
     exit(if done { 0 } else { 1 })
 }

@@ -4,7 +4,11 @@ use std::process::{Command, Stdio};
 
 /// Runs a program on an input to its end.
 pub fn run(program: &str, input: String) -> Result<Vec<u8>, String> {
-    let child = Command::new(program).stdin(Stdio::piped()).stdout(Stdio::piped()).spawn();
+    run_with(program, &[], input)
+}
+
+pub fn run_with(program: &str, options: &[&str], input: String) -> Result<Vec<u8>, String> {
+    let child = Command::new(program).args(options).stdin(Stdio::piped()).stdout(Stdio::piped()).spawn();
     let mut child = child.map_err(|e| format!("{program}: {e}"))?;
     let mut stdin = child.stdin.take().unwrap();
     // A program that ends early closes its input: what it wrote until then is compared.

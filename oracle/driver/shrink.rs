@@ -58,7 +58,7 @@ impl Programs {
             let Some((words, bytes)) = script[at].rsplit_once(' ') else {
                 continue;
             };
-            if script[at].starts_with(['A', 'B', 'S', 'e']) && bytes != "-" {
+            if script[at].starts_with(['A', 'B', 'S', 'e', 'G']) && bytes != "-" {
                 let mut simpler = script.clone();
                 simpler[at] = format!("{words} -");
                 if self.differs(&simpler) {

@@ -1,6 +1,9 @@
 //! What was compared: calls by kind and answer.
 use std::collections::BTreeMap;
 
+use crate::fields::hex;
+use crate::images::{canonical, Entry, Record};
+
 /// Entries, records and version behind an answer.
 #[derive(Clone, Copy, Default)]
 pub struct Counts {
@@ -67,6 +70,8 @@ impl Call<'_> {
             ("M", "00") => either(self.answer.ends_with(" -"), "empty list", "list"),
             ("I", "00") => either(self.answer.ends_with(" none"), "nothing", "row"),
             ("X" | "F", "00") => either(self.said(2) == "1", "something went", "nothing went"),
+            ("G", "00") if self.word(1) == "!" => "image of this table",
+            ("G", "00") => either(self.is_canonical(), "as the Rust writes it", "written otherwise"),
             ("T", "00") => either(self.before.version != self.after.version, "records changed", "no record changed"),
             ("C", "00") if self.whole() => either(self.grew(), "group, new scenes", "group, known scenes"),
             ("C", "00") => either(self.grew(), "new scene", "known scene"),
@@ -77,16 +82,45 @@ impl Call<'_> {
         }
     }
 
+    /// Whether the image that was loaded is the one that the table behind it would be saved as.
+    fn is_canonical(&self) -> bool {
+        let (entries, records) = standing(self.dump);
+        self.word(1) == hex(&canonical(&entries, &records))
+    }
+
     /// Whether a copy is of a whole group.
     fn whole(&self) -> bool {
         self.word(3).parse::<u8>().is_ok_and(|mode| mode % 2 == 1)
     }
 
     fn letter(&self) -> &'static str {
-        const LETTERS: [&str; 15] = ["A", "S", "V", "R", "X", "C", "L", "M", "I", "T", "F", "Z", "U", "W", "E"];
+        const LETTERS: [&str; 17] = ["A", "S", "V", "R", "X", "C", "L", "M", "I", "T", "F", "Z", "U", "W", "E", "P", "G"];
         let letter = if self.line.starts_with('B') { "A" } else { &self.line[..1] };
         LETTERS.iter().copied().find(|l| *l == letter).unwrap_or("?")
     }
+}
+
+/// The entries and the records of a dump.
+fn standing(dump: &[u8]) -> (Vec<Entry>, Vec<Record>) {
+    let (mut entries, mut records) = (Vec::new(), Vec::new());
+    for line in String::from_utf8_lossy(dump).lines() {
+        let words: Vec<&str> = line.split_ascii_whitespace().collect();
+        let number = |at: usize| words.get(at).and_then(|word| word.parse::<u64>().ok()).unwrap_or(0);
+        let (fabric, endpoint, group, scene) = (number(1) as u8, number(2) as u16, number(3) as u16, number(4) as u8);
+        match words.first() {
+            Some(&"e") => {
+                let fields = words.get(6).map_or(Vec::new(), |word| unhex(word));
+                entries.push(Entry { fabric, endpoint, group, scene, time: number(5) as u32, fields });
+            }
+            Some(&"r") => records.push(Record { fabric, endpoint, group, scene, valid: number(5) == 1 }),
+            _ => {}
+        }
+    }
+    (entries, records)
+}
+
+fn unhex(word: &str) -> Vec<u8> {
+    word.as_bytes().chunks_exact(2).map(|p| u8::from_str_radix(&String::from_utf8_lossy(p), 16).unwrap_or(0)).collect()
 }
 
 /// Every answer that can occur in a sound table, by letter, status and cause.
@@ -110,6 +144,8 @@ pub const ANSWERS: &[(&str, &str)] = &[
     ("T", "00 records changed"), ("T", "00 no record changed"),
     ("F", "00 something went"), ("F", "00 nothing went"), ("F", "F1"),
     ("Z", "00"), ("U", "00"), ("W", "00"), ("E", "00"),
+    ("P", "00"),
+    ("G", "00 as the Rust writes it"), ("G", "00 written otherwise"), ("G", "00 image of this table"), ("G", "F9"), ("G", "F10"),
 ];
 
 const LENGTHS: [usize; 7] = [0, 1, 126, 127, 128, 129, 200];
@@ -118,6 +154,7 @@ const LENGTHS: [usize; 7] = [0, 1, 126, 127, 128, 129, 200];
 pub struct Tally {
     pub scripts: u64,
     pub calls: u64,
+    pub images: u64,
     answers: BTreeMap<(&'static str, String), u64>,
     by_size: BTreeMap<usize, u64>,
     lengths: BTreeMap<(char, usize), u64>,
@@ -142,6 +179,7 @@ impl Tally {
             return self.other("recalls not compared: apply failed, but there was no set to apply");
         }
         self.calls += 1;
+        self.images += (call.letter() == "G") as u64;
         *self.answers.entry(answer_of(call, self.size)).or_default() += 1;
         *self.by_size.entry(self.size).or_default() += 1;
         self.count_lengths(call);
@@ -172,6 +210,14 @@ impl Tally {
         }
         if call.after.version < call.before.version {
             self.other("calls in which the version wrapped");
+        }
+        if call.letter() == "P" {
+            let (entries, records) = standing(call.dump);
+            self.other(if call.said(6) == hex(&canonical(&entries, &records)) {
+                "images saved that are what the TLV appendix says of the table"
+            } else {
+                "images saved that are not what the TLV appendix says of the table"
+            });
         }
         if call.line.starts_with('B') {
             self.other("adds whose pairs the published code found in the fields");

@@ -27,8 +27,9 @@ fn options() {
     for word in std::env::args().skip(1) {
         match word.as_str() {
             "--nullable-reduced" => crate::tlv::oracle::reduce_nullable(),
+            "--ordered" => crate::tlv::oracle::read_in_order(),
             other => {
-                eprintln!("oracle: unknown option {other}; known: --nullable-reduced");
+                eprintln!("oracle: unknown option {other}; known: --nullable-reduced, --ordered");
                 std::process::exit(2);
             }
         }

@@ -63,6 +63,9 @@ pub enum Call {
     SetVersion(u32),
     PushEntry(Entry),
     PushRecord(Record),
+    Save,
+    /// An image, or the one that was saved last.
+    Load(Option<Vec<u8>>),
 }
 
 /// The words behind a letter, taken one by one.
@@ -143,6 +146,13 @@ impl Words<'_> {
         Ok(Recall { at, member, time, applied: self.number::<u8>()? != 0 })
     }
 
+    fn image(&mut self) -> Read<Option<Vec<u8>>> {
+        if self.0.clone().next() == Some("!") {
+            return self.word().map(|_| None);
+        }
+        self.bytes().map(Some)
+    }
+
     fn entry(&mut self) -> Read<Entry> {
         let Address { fab, ep, group, scene } = self.address()?;
         Ok(Entry { fab, ep, group, scene, time: self.number()?, fields: self.bytes()? })
@@ -180,6 +190,8 @@ pub fn read(line: &str) -> Read<Call> {
         "K" => Call::SetVersion(w.number()?),
         "e" => Call::PushEntry(w.entry()?),
         "r" => Call::PushRecord(w.record()?),
+        "P" => Call::Save,
+        "G" => Call::Load(w.image()?),
         other => return Err(format!("command {other:?}")),
     };
     match words.word() {

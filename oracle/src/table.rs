@@ -1,5 +1,6 @@
 //! One table: each call goes to the handler of scenes.rs, and what comes back becomes an answer.
-use std::cell::Cell;
+use std::cell::{Cell, RefCell};
+use std::collections::HashSet;
 use std::future::Future;
 use std::num::NonZeroU8;
 use std::pin::pin;
@@ -35,6 +36,7 @@ struct Table<const N: usize> {
     state: ScenesState<N>,
     kv: Kv,
     notified: Cell<u32>,
+    saved: RefCell<Vec<u8>>,
 }
 
 /// What a handler left: its result, what the response was told, the bytes written, and whether a
@@ -367,6 +369,42 @@ impl<const N: usize> Table<N> {
         self.lifecycle(LifecycleOp::Startup)
     }
 
+    /// The image that the table would be saved as.
+    fn save(&self) -> Answer {
+        match self.state.image() {
+            Ok(image) => {
+                let values = vec![hex(&image)];
+                *self.saved.borrow_mut() = image;
+                Answer { values, ..with_status("00") }
+            }
+            Err(e) => with_status(&host_fault(e.code())),
+        }
+    }
+
+    /// Startup with a saved image. Number 10 is not the Rust's: it is decided here, on what the Rust made of the image in
+    /// a table of its own.
+    fn load(&self, image: &[u8]) -> Answer {
+        let other = new_table::<N>();
+        if other.start_with(image).is_err() {
+            return with_status("F9");
+        }
+        if clashes(&other.state.dump()) {
+            return with_status("F10");
+        }
+        match self.start_with(image) {
+            Ok(()) => with_status("00"),
+            Err(e) => with_status(&host_fault(e.code())),
+        }
+    }
+
+    fn start_with(&self, image: &[u8]) -> Result<(), Error> {
+        *self.kv.image.borrow_mut() = Some(image.to_vec());
+        let groups = Groups::new(0, 0, &[]);
+        let clusters = Clusters::default();
+        let handler = ScenesHandler::new(Dataver::new(0), &groups, &self.state, &clusters);
+        handler.lifecycle(self.ctx(0, 0), LifecycleOp::Startup)
+    }
+
     fn dump(&self) -> Answer {
         let Dump { entries, records, version } = self.state.dump();
         let mut lines = vec![format!("D {} {} {}", entries.len(), records.len(), version)];
@@ -408,8 +446,19 @@ impl<const N: usize> Table<N> {
             }
             Call::PushEntry(entry) => pushed(self.state.push_entry(entry)),
             Call::PushRecord(record) => pushed(self.state.push_record(record)),
+            Call::Save => self.save(),
+            Call::Load(Some(image)) => self.load(image),
+            Call::Load(None) => self.load(&self.saved.borrow().clone()),
         }
     }
+}
+
+/// Document 02's number 10: two entries with one key, two records of one fabric, or scene 0 or 255 anywhere.
+fn clashes(table: &Dump) -> bool {
+    let reserved = |scene: u8| scene == 0 || scene == 255;
+    let (mut keys, mut fabrics) = (HashSet::new(), HashSet::new());
+    table.entries.iter().any(|e| reserved(e.scene) || !keys.insert((e.fab, e.ep, e.group, e.scene)))
+        || table.records.iter().any(|r| reserved(r.scene) || !fabrics.insert(r.fab))
 }
 
 /// What the published code makes of field bytes that are no proper list of sets.
@@ -479,8 +528,13 @@ impl<const N: usize> AnyTable for Table<N> {
     }
 }
 
+fn new_table<const N: usize>() -> Box<Table<N>> {
+    let (notified, saved) = (Cell::new(0), RefCell::default());
+    Box::new(Table { state: ScenesState::new(), kv: Kv::default(), notified, saved })
+}
+
 fn make<const N: usize>() -> Box<dyn AnyTable> {
-    Box::new(Table::<N> { state: ScenesState::new(), kv: Kv::default(), notified: Cell::new(0) })
+    new_table::<N>()
 }
 
 macro_rules! sizes {

@@ -81,7 +81,7 @@ impl ToTLV for TLVElement<'_> {
     }
 }
 
-/// Not published: a switch for what the missing files may do either way.
+/// Not published: switches for what the missing files may do either way.
 pub mod oracle {
     use core::sync::atomic::{AtomicBool, Ordering};
 
@@ -94,5 +94,16 @@ pub mod oracle {
 
     pub fn nullable_is_reduced() -> bool {
         NULLABLE_REDUCED.load(Ordering::Relaxed)
+    }
+
+    static ORDERED: AtomicBool = AtomicBool::new(false);
+
+    /// From now on a derived structure is read with its members in the order of their tags.
+    pub fn read_in_order() {
+        ORDERED.store(true, Ordering::Relaxed);
+    }
+
+    pub fn is_read_in_order() -> bool {
+        ORDERED.load(Ordering::Relaxed)
     }
 }
