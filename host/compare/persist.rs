@@ -82,17 +82,17 @@ impl HandlerContext for &Blob {
     }
 }
 
-/// Where an image is written: a byte costs a test and a write.
-struct Out<'a> {
-    bytes: &'a mut [u8],
-    len: usize,
+/// Where an image is written, the scene ids of a membership and field bytes that are copied: a byte costs a test and a write.
+pub struct Out<B> {
+    pub bytes: B,
+    pub len: usize,
 }
 
-impl TLVWrite for Out<'_> {
+impl<B: AsMut<[u8]>> TLVWrite for Out<B> {
     type Position = usize;
 
     fn write(&mut self, byte: u8) -> Result<(), Error> {
-        *self.bytes.get_mut(self.len).ok_or(ErrorCode::NoSpace)? = byte;
+        *self.bytes.as_mut().get_mut(self.len).ok_or(ErrorCode::NoSpace)? = byte;
         self.len += 1;
         Ok(())
     }

@@ -12,7 +12,7 @@ use crate::dm::{
     InvokeContext, LifecycleOp, ReadContext,
 };
 use crate::error::{Error, ErrorCode};
-use crate::persist::{Blob, KvBlobStoreAccess, Nothing, Save};
+use crate::persist::{Blob, KvBlobStoreAccess, Nothing, Out, Save};
 use crate::requests::{CopyRequest, GroupKey, SceneKey};
 use crate::rows::{image_max, Side, FIELDS, TIME};
 use crate::tlv::{TLVArray, TLVBuilder, TLVBuilderParent, TLVTag, TLVWrite, TLVWriteParent};
@@ -87,28 +87,6 @@ impl TLVWrite for Nowhere {
     fn rewind_to(&mut self, _pos: ()) {}
 }
 
-/// Where the scene ids of a membership go, and field bytes that are copied.
-struct Ids {
-    bytes: [u8; 1024],
-    len: usize,
-}
-
-impl TLVWrite for &mut Ids {
-    type Position = usize;
-
-    fn write(&mut self, byte: u8) -> Result<(), Error> {
-        *self.bytes.get_mut(self.len).ok_or(ErrorCode::NoSpace)? = byte;
-        self.len += 1;
-        Ok(())
-    }
-    fn get_tail(&self) -> usize {
-        self.len
-    }
-    fn rewind_to(&mut self, pos: usize) {
-        self.len = pos;
-    }
-}
-
 /// Nothing here ever waits.
 fn at_once<F: Future>(future: F) -> F::Output {
     match pin!(future).poll(&mut Context::from_waker(Waker::noop())) {
@@ -120,7 +98,7 @@ fn at_once<F: Future>(future: F) -> F::Output {
 pub struct Published<const N: usize> {
     now: ScenesState<N>,
     kept: ScenesState<N>,
-    ids: Ids,
+    ids: Out<[u8; 1024]>,
     blob: Blob,
 }
 
@@ -150,7 +128,7 @@ macro_rules! written {
 
 impl<const N: usize> Published<N> {
     pub fn new() -> Self {
-        let ids = Ids { bytes: [0; 1024], len: 0 };
+        let ids = Out { bytes: [0; 1024], len: 0 };
         Self { now: ScenesState::new(), kept: ScenesState::new(), ids, blob: Blob::new(image_max(N)) }
     }
 
