@@ -1,5 +1,6 @@
 -- Every row of the table holds of the definitions that the contracts cite. Assumes nothing.
 use mathlib.Core.Path.{refl}
+use mathlib.Core.List.{flatMap}
 use Rattle.words.specs.Conditions.{allOf}
 use Rattle.words.specs.Below.{positions, everyBelow, anyBelow, firstBelow, orElse}
 use Rattle.slots.specs.Slots.{firstKey, keysSound, lengthsSound, overlay, putSlot, laid}
@@ -13,7 +14,7 @@ use Rattle.tlv.specs.Passing.{nested, passed}
 use Rattle.tlv.specs.Values.{unsigned, numberAt, boolAt, octets, octetsAt, insideAt}
 use Rattle.tlv.specs.Members.{memberAt, tagged, found}
 use Rattle.tlv.specs.Encoding.{lowFirst, smallest}
-use Rattle.image_writer.specs.Image.{concat, imageBytes}
+use Rattle.image_writer.specs.Image.{imageBytes}
 use Rattle.image_save.specs.Saving.{saveImage}
 use Rattle.image_reader.specs.Entries.{memberNumber, memberBool, memberOctets, keyFrom, entryAt, recordAt}
 use Rattle.image_reader.specs.Image.{membersRead, arrayUnder, arraysIn, imageIn}
@@ -41,7 +42,7 @@ unfolding keysClash recordsClash anyBelow firstBelow orElse firstKey firstOwned 
 loading = tt
 
 saving : Unit {0}
-unfolding lowFirst smallest concat imageBytes saveImage
+unfolding lowFirst smallest flatMap imageBytes saveImage
 saving = tt
 
 -- ---- the theorem

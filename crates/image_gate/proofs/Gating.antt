@@ -15,9 +15,9 @@ use Rattle.tlv.specs.Members.{memberAt, stepping}
 use Rattle.image_reader.specs.declared.Entry.{Entry}
 use Rattle.image_reader.specs.declared.Entry.the-variants.{Scene, NoEntry}
 use Rattle.image_reader.specs.Entries.{entryAt, entryIn}
-use Rattle.image_reader.specs.Image.{inFront, membersRead, entriesFrom, recordsFrom, atMost, joined}
+use Rattle.image_reader.specs.Image.{prepended, membersRead, entriesFrom, recordsFrom, atMost, joined}
 use Rattle.image_gate.specs.Verdict.{keyClashes, keysClash, recordClashes, recordsClash, verdict}
-use Rattle.image_gate.specs.Deciding.{keyIn, keysFrom, judged, firstFault, imageFrom, imageOf, readable, listed}
+use Rattle.image_gate.specs.Deciding.{keyIn, keysFrom, judged, firstFault, imageFrom, imageWith, readable, listed}
 
 -- ---- the key words of entries
 
@@ -29,7 +29,7 @@ keysIn none = none
 keysIn (some es) = some (map keyOfEntry es)
 
 module _ (b : List ℕ) where
-  front-keys : (e : Entry) (r : Option (List SceneEntry)) → inFront (keyIn e) (keysIn r) ≡ keysIn (inFront (entryIn b e) r)
+  front-keys : (e : Entry) (r : Option (List SceneEntry)) → prepended (keyIn e) (keysIn r) ≡ keysIn (prepended (entryIn b e) r)
   front-keys (Scene s) none = refl
   front-keys (Scene s) (some es) = refl
   front-keys NoEntry r = refl
@@ -39,10 +39,10 @@ module _ (b : List ℕ) where
   read-keys zero at = refl
   read-keys (suc k) at =
       elim (memberAt b at) as (λ r.
-      stepping r (some []) none (λ h next. inFront (keyIn (entryAt b at)) (membersRead (λ i. keyIn (entryAt b i)) b k next))
-      ≡ keysIn (stepping r (some []) none (λ h next. inFront (entryIn b (entryAt b at)) (membersRead (λ i. entryIn b (entryAt b i)) b k next)))) [
+      stepping r (some []) none (λ h next. prepended (keyIn (entryAt b at)) (membersRead (λ i. keyIn (entryAt b i)) b k next))
+      ≡ keysIn (stepping r (some []) none (λ h next. prepended (entryIn b (entryAt b at)) (membersRead (λ i. entryIn b (entryAt b i)) b k next)))) [
         | Member h n ↦
-            ap (inFront (keyIn (entryAt b at))) (read-keys k n) ∙ front-keys (entryAt b at) (membersRead (λ i. entryIn b (entryAt b i)) b k n)
+            ap (prepended (keyIn (entryAt b at))) (read-keys k n) ∙ front-keys (entryAt b at) (membersRead (λ i. entryIn b (entryAt b i)) b k n)
         | End ↦ refl
         | Damaged ↦ refl
       ]
@@ -100,7 +100,7 @@ pub record Passed (size : ℕ) (es : Option (List SceneEntry)) (rs : Option (Lis
   pub entries-few : length (listed es) ≤ size
   pub records-read : readable rs ≡ true
   pub records-few : length (listed rs) ≤ size
-  pub image : joined (atMost size es) (atMost size rs) ≡ some (imageOf (listed es) (listed rs))
+  pub image : joined (atMost size es) (atMost size rs) ≡ some (imageWith (listed es) (listed rs))
 
 bad : {A : Type 0} → verdict none ≡ success → A
 unfolding verdict

@@ -20,7 +20,7 @@ use Rattle.records.specs.Records.{firstOwned}
 use Rattle.tlv.specs.declared.elements.Element.{Element}
 use Rattle.tlv.specs.declared.members.Step.the-variants.{Member, End, Damaged}
 use Rattle.tlv.specs.Members.{memberAt}
-use Rattle.image_reader.specs.Image.{inFront, membersFrom}
+use Rattle.image_reader.specs.Image.{prepended, membersFrom}
 use Rattle.image_reader.proofs.Listing.{members-end, members-damaged, members-none, members-more}
 use Rattle.image_gate.specs.Verdict.{isFound, barred, keyClashes, recordClashes}
 use Rattle.image_gate.specs.Deciding.{judged}
@@ -68,7 +68,7 @@ behind-nothing : (r : Option (List ℕ)) → behind [] r ≡ r
 behind-nothing none = refl
 behind-nothing (some ys) = refl
 
-behind-more : (xs : List ℕ) (x : ℕ) (r : Option (List ℕ)) → behind (xs ++ (x ∷ [])) r ≡ behind xs (inFront (some x) r)
+behind-more : (xs : List ℕ) (x : ℕ) (r : Option (List ℕ)) → behind (xs ++ (x ∷ [])) r ≡ behind xs (prepended (some x) r)
 behind-more xs x none = refl
 behind-more xs x (some ys) = ap some (append-assoc xs (x ∷ []) ys)
 

@@ -34,8 +34,9 @@ firstFault entries records = cond (eqb entries badImage) entries (cond (eqb reco
 abbrev pub imageFrom : ℕ → List ℕ → ℕ → ℕ → Option Image
 imageFrom size bytes first second = joined (atMost size (entriesFrom bytes first)) (atMost size (recordsFrom bytes second))
 
-abbrev pub imageOf : List SceneEntry → List ℕ → Image
-imageOf es rs = record { entries = es; records = rs }
+-- the image of two lists
+abbrev pub imageWith : List SceneEntry → List ℕ → Image
+imageWith es rs = record { entries = es; records = rs }
 
 -- what was read, if all of it could be
 abbrev pub readable : {A : Type 0} → Option (List A) → Bool

@@ -21,7 +21,7 @@ use Rattle.image_reader.specs.declared.Entry.the-variants.{Scene, NoEntry}
 use Rattle.tlv.specs.declared.values.Number.{Number}
 use Rattle.tlv.specs.declared.values.Number.the-variants.{Value, NoNumber}
 use Rattle.image_reader.specs.Entries.{counting, entryAt, entryIn, sceneEntry, recordAt}
-use Rattle.image_reader.specs.Image.{inFront, membersRead, entriesFrom, recordsFrom, atMost, joined, holding, arraysIn, Image, imageIn}
+use Rattle.image_reader.specs.Image.{prepended, membersRead, entriesFrom, recordsFrom, atMost, joined, holding, arraysIn, Image, imageIn}
 use Rattle.image_reader.proofs.Bounds.{entry-bounds, record-bounds}
 use Rattle.image_load.proofs.Restoring.{each, short}
 
@@ -33,12 +33,12 @@ module _ {A : Type 0} (read : ℕ → Option A) (p : A → Bool) (b : List ℕ) 
   unfolding membersRead each
   members-each zero at xs = λ e. subst (λ (ys : List A). each p ys ≡ true) (Option·some-injective _ _ e) refl
   members-each (suc k) at xs =
-      elim (memberAt b at) as (λ r. stepping r (some []) none (λ h n. inFront (read at) (membersRead read b k n)) ≡ some xs → each p xs ≡ true) [
+      elim (memberAt b at) as (λ r. stepping r (some []) none (λ h n. prepended (read at) (membersRead read b k n)) ≡ some xs → each p xs ≡ true) [
         | Member h n ↦
-            elim (read at) as (λ r. read at ≡ r → inFront r (membersRead read b k n) ≡ some xs → each p xs ≡ true) [
+            elim (read at) as (λ r. read at ≡ r → prepended r (membersRead read b k n) ≡ some xs → each p xs ≡ true) [
               | none ↦ λ q e. absurd (Option·none-ne-some _ e)
               | some x ↦ λ q.
-                  elim (membersRead read b k n) as (λ r. membersRead read b k n ≡ r → inFront (some x) r ≡ some xs → each p xs ≡ true) [
+                  elim (membersRead read b k n) as (λ r. membersRead read b k n ≡ r → prepended (some x) r ≡ some xs → each p xs ≡ true) [
                     | none ↦ λ w e. absurd (Option·none-ne-some _ e)
                     | some ys ↦ λ w e.
                         subst (λ (zs : List A). each p zs ≡ true) (Option·some-injective _ _ e) (and-intro (p x) (each p ys) (one at x q) (members-each k n ys w))

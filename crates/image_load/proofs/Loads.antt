@@ -18,7 +18,7 @@ use Rattle.image_reader.specs.declared.Arrays.the-variants.{Both, NoArrays}
 use Rattle.image_reader.specs.Image.{Image, entriesFrom, recordsFrom, arraysIn, imageIn}
 use Rattle.image_gate.specs.Verdict.{verdict, imageGate}
 use Rattle.image_load.specs.Loading.{restored, loadImage}
-use Rattle.image_gate.specs.Deciding.{imageFrom, imageOf, listed}
+use Rattle.image_gate.specs.Deciding.{imageFrom, imageWith, listed}
 use Rattle.image_gate.proofs.Gating.{Passed, passed}
 
 abbrev answered : ℕ → ScenesState → Outcome
@@ -60,7 +60,7 @@ module _ (t : Table) (b : List ℕ) (s : sound t ≡ true) where
       load-passed = passed (t .state .size) (entriesFrom b first) (recordsFrom b second) (sym d ∙ z)
 
       pub load-done : (state : ScenesState) (slots : Slots) (records : List ℕ)
-          → record { state = state; slots = slots; records = records } ≡ restored (some (imageOf (listed (entriesFrom b first)) (listed (recordsFrom b second)))) t
+          → record { state = state; slots = slots; records = records } ≡ restored (some (imageWith (listed (entriesFrom b first)) (listed (recordsFrom b second)))) t
           → (o : Outcome) → o ≡ answered success state → resultIn slots records o ≡ loadImage b t
       unfolding loadImage
       load-done state slots records r o q =

@@ -20,18 +20,18 @@ use Rattle.tlv.proofs.Walks.{member-on}
 use Rattle.image_reader.specs.declared.Slot.{Slot}
 use Rattle.image_reader.specs.declared.Entry.the-variants.{Scene, NoEntry}
 use Rattle.image_reader.specs.Entries.{entryAt, entryIn, sceneEntry}
-use Rattle.image_reader.specs.Image.{inFront, membersFrom, entriesFrom}
+use Rattle.image_reader.specs.Image.{prepended, membersFrom, entriesFrom}
 use Rattle.image_reader.proofs.Listing.{members-end, members-damaged, members-none, members-more}
 use Rattle.image_reader.proofs.Bounds.{EntryBounds}
 use Rattle.image_load.specs.Loading.{putEntries, restored}
-use Rattle.image_gate.specs.Deciding.{readable, listed, imageOf}
+use Rattle.image_gate.specs.Deciding.{readable, listed, imageWith}
 use Rattle.image_gate.proofs.Scanning.{behind, Gathered, gather-start, gather-end, gather-damaged, gather-unread, gather-one, gather-next}
 
 -- what was read has no damage
 unread : {A C : Type 0} (r : Option (List A)) → none ≡ r → readable r ≡ true → C
 unread r e h = absurd (false≢true (ap readable e ∙ h))
 
-front-parts : {A : Type 0} (x : A) (r : Option (List A)) → readable (inFront (some x) r) ≡ true → (readable r ≡ true) × (listed (inFront (some x) r) ≡ x ∷ listed r)
+front-parts : {A : Type 0} (x : A) (r : Option (List A)) → readable (prepended (some x) r) ≡ true → (readable r ≡ true) × (listed (prepended (some x) r) ≡ x ∷ listed r)
 front-parts x none h = absurd (false≢true h)
 front-parts x (some xs) h = (refl, refl)
 
@@ -142,7 +142,7 @@ module _ {b : List ℕ} {first : ℕ} {s₀ s : Slots} {n at : ℕ} (t : Filling
     fill-unread e = unread (entriesFrom b at) (sym (members-none (readEntry b) b at h next m (ap (entryIn b) e))) (t .whole)
 
     module _ (slot : Slot) (e : entryAt b at ≡ Scene slot) where
-      more : entriesFrom b at ≡ inFront (some (sceneEntry b slot)) (entriesFrom b next)
+      more : entriesFrom b at ≡ prepended (some (sceneEntry b slot)) (entriesFrom b next)
       more = members-more (readEntry b) b at h next m (sceneEntry b slot) (ap (entryIn b) e)
 
       parts : (readable (entriesFrom b next) ≡ true) × (listed (entriesFrom b at) ≡ sceneEntry b slot ∷ listed (entriesFrom b next))
@@ -190,7 +190,7 @@ module _ {b : List ℕ} {first : ℕ} {s₀ s : Slots} {n at : ℕ} (t : Filling
 pub restores : (t : Table) (state : ScenesState) (s : Slots) (words : List ℕ) (es : List SceneEntry) (rs : List ℕ) (m n : ℕ)
     → (m ≡ length es) × (s ≡ putEntries 0 es (t .slots)) → (n ≡ length rs) × (words ≡ laid rs (t .records))
     → state ≡ bumpIf true (withRecordCount n (withEntryCount m (t .state)))
-    → record { state = state; slots = s; records = words } ≡ restored (some (imageOf es rs)) t
+    → record { state = state; slots = s; records = words } ≡ restored (some (imageWith es rs)) t
 unfolding restored
 restores t state s words es rs m n p q e = λ i. record {
   state = (e ∙ ap₂ (λ (a c : ℕ). bumpIf true (withRecordCount c (withEntryCount a (t .state)))) (p .0) (q .0)) i;

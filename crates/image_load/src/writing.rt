@@ -16,7 +16,7 @@ ghost use Rattle.slots.specs.Slots.{slotsOf, laid};
 ghost use Rattle.state.specs.Table.{tableOf, Room};
 ghost use Rattle.image_reader.specs.Image.{entriesFrom, recordsFrom};
 ghost use Rattle.image_load.specs.Loading.{putEntries, restored};
-ghost use Rattle.image_gate.specs.Deciding.{readable, listed, imageOf};
+ghost use Rattle.image_gate.specs.Deciding.{readable, listed, imageWith};
 
 // Writes the entries of an array to the front of the slices. How many they are.
 fn put_entries(
@@ -119,7 +119,7 @@ pub(crate) fn restore(
     ensures { λ r.
         let before = tableOf state (now (keys .entry)) (now (times .entry)) (now (fields .entry)) (now (records .entry)) in
         let after = tableOf r (now (keys .exit)) (now (times .exit)) (now (fields .exit)) (now (records .exit)) in
-        let image = imageOf (listed (entriesFrom (now (bytes .entry)) first)) (listed (recordsFrom (now (bytes .entry)) second)) in
+        let image = imageWith (listed (entriesFrom (now (bytes .entry)) first)) (listed (recordsFrom (now (bytes .entry)) second)) in
         ⌜ after ≡ restored (some image) before ⌝ }
 {
     let count = put_entries(keys, times, fields, bytes, first);

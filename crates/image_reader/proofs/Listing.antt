@@ -9,7 +9,7 @@ use Rattle.tlv.specs.declared.elements.Element.{Element}
 use Rattle.tlv.specs.declared.members.Step.the-variants.{Member, End, Damaged}
 use Rattle.tlv.specs.Members.{memberAt, stepping}
 use Rattle.tlv.proofs.Walks.{member-outside, member-on}
-use Rattle.image_reader.specs.Image.{inFront, membersRead, membersFrom}
+use Rattle.image_reader.specs.Image.{prepended, membersRead, membersFrom}
 
 module _ {A : Type 0} (read : ℕ → Option A) (b : List ℕ) where
   read-outside : (k at : ℕ) → length b ≤ at → membersRead read b k at ≡ some []
@@ -24,11 +24,11 @@ module _ {A : Type 0} (read : ℕ → Option A) (b : List ℕ) where
   read-enough (suc k) zero at p q = read-outside (suc k) at (omega arith)
   read-enough (suc k) (suc j) at p q =
       elim (memberAt b at) as (λ r. memberAt b at ≡ r
-      → stepping r (some []) none (λ h next. inFront (read at) (membersRead read b k next))
-      ≡ stepping r (some []) none (λ h next. inFront (read at) (membersRead read b j next))) [
+      → stepping r (some []) none (λ h next. prepended (read at) (membersRead read b k next))
+      ≡ stepping r (some []) none (λ h next. prepended (read at) (membersRead read b j next))) [
         | Member h n ↦ λ e.
             let o = member-on b at h n e in
-            ap (inFront (read at)) (read-enough k j n (omega arith) (omega arith))
+            ap (prepended (read at)) (read-enough k j n (omega arith) (omega arith))
         | End ↦ λ e. refl
         | Damaged ↦ λ e. refl
       ] refl
@@ -43,14 +43,14 @@ module _ {A : Type 0} (read : ℕ → Option A) (b : List ℕ) where
     members-damaged e = rw e
 
     module _ (h : Element) (n : ℕ) (e : memberAt b at ≡ Member h n) where
-      pub members-on : membersFrom read b at ≡ inFront (read at) (membersFrom read b n)
+      pub members-on : membersFrom read b at ≡ prepended (read at) (membersFrom read b n)
       unfolding membersRead
       members-on =
           let o = member-on b at h n e in
-          rw e (ap (inFront (read at)) (read-enough (length b) (suc (length b)) n (omega arith) (omega arith)))
+          rw e (ap (prepended (read at)) (read-enough (length b) (suc (length b)) n (omega arith) (omega arith)))
 
       pub members-none : read at ≡ none → membersFrom read b at ≡ none
-      members-none q = members-on ∙ ap (λ (r : Option A). inFront r (membersFrom read b n)) q
+      members-none q = members-on ∙ ap (λ (r : Option A). prepended r (membersFrom read b n)) q
 
-      pub members-more : (x : A) → read at ≡ some x → membersFrom read b at ≡ inFront (some x) (membersFrom read b n)
-      members-more x q = members-on ∙ ap (λ (r : Option A). inFront r (membersFrom read b n)) q
+      pub members-more : (x : A) → read at ≡ some x → membersFrom read b at ≡ prepended (some x) (membersFrom read b n)
+      members-more x q = members-on ∙ ap (λ (r : Option A). prepended r (membersFrom read b n)) q

@@ -20,17 +20,18 @@ use Rattle.image_reader.specs.Entries.{searching, counting, entryAt, ent
 
 -- ---- arrays
 
-abbrev pub inFront : {A : Type 0} → Option A → Option (List A) → Option (List A)
-inFront none xs = none
-inFront (some x) none = none
-inFront (some x) (some xs) = some (x ∷ xs)
+-- what was read in front of what follows, if both could be read
+abbrev pub prepended : {A : Type 0} → Option A → Option (List A) → Option (List A)
+prepended none xs = none
+prepended (some x) none = none
+prepended (some x) (some xs) = some (x ∷ xs)
 
 -- what the members of an array are read as, from the first one on, or nothing if one cannot be read. Each member has a byte at least, so one
 -- more than there are bytes is enough of them
 unfoldable pub membersRead : {A : Type 0} → (ℕ → Option A) → List ℕ → ℕ → ℕ → Option (List A)
 membersRead read bytes zero at = some []
 membersRead read bytes (suc n) at =
-    stepping (memberAt bytes at) (some []) none λ e next. inFront (read at) (membersRead read bytes n next)
+    stepping (memberAt bytes at) (some []) none λ e next. prepended (read at) (membersRead read bytes n next)
 
 abbrev pub membersFrom : {A : Type 0} → (ℕ → Option A) → List ℕ → ℕ → Option (List A)
 membersFrom read bytes at = membersRead read bytes (suc (length bytes)) at

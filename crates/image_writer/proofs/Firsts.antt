@@ -1,7 +1,7 @@
 -- The laws of the bytes of the first entries and of the first records, one more at a time. Assumes nothing.
 use Prim.Native.Nat.{ℕ, _+_, _<_}
 use mathlib.Core.Path.{_≡_, refl, sym, ap, _∙_}
-use mathlib.Core.List.{List, [], _∷_, _++_, map, append-assoc, append-nil, map-append}
+use mathlib.Core.List.{List, [], _∷_, _++_, map, append-assoc, append-nil, map-append, flatMap}
 use native.Mathlib.Numerals.{add-one}
 use lib.ListN.{length, getD, take}
 use lib.Seq.{take-suc}
@@ -9,44 +9,44 @@ use Rattle.words.specs.Below.{positions}
 use Rattle.slots.specs.Slots.{Slots, entryAt}
 use Rattle.text_output.specs.Writing.{Sheet, puts}
 use Rattle.text_output.proofs.Writing.{then, puts-none}
-use Rattle.image_writer.specs.Image.{entryBytes, recordBytes, concat}
+use Rattle.image_writer.specs.Image.{entryBytes, recordBytes}
 
-pub concat-last : {A : Type 0} (f : A → List ℕ) (xs : List A) (x : A) → concat f (xs ++ (x ∷ [])) ≡ concat f xs ++ f x
-unfolding concat
-concat-last f [] x = append-nil (f x)
-concat-last f (y ∷ xs) x = ap (λ (l : List ℕ). f y ++ l) (concat-last f xs x) ∙ sym (append-assoc (f y) (concat f xs) (f x))
+pub flatMap-last : {A : Type 0} (f : A → List ℕ) (xs : List A) (x : A) → flatMap f (xs ++ (x ∷ [])) ≡ flatMap f xs ++ f x
+unfolding flatMap
+flatMap-last f [] x = append-nil (f x)
+flatMap-last f (y ∷ xs) x = ap (λ (l : List ℕ). f y ++ l) (flatMap-last f xs x) ∙ sym (append-assoc (f y) (flatMap f xs) (f x))
 
 -- ---- entries
 
 -- the bytes of the first n
 abbrev pub entriesUpTo : Slots → ℕ → List ℕ
-entriesUpTo s n = concat entryBytes (map (entryAt s) (positions n))
+entriesUpTo s n = flatMap entryBytes (map (entryAt s) (positions n))
 
 pub entries-none : (s : Slots) → entriesUpTo s 0 ≡ []
-unfolding concat positions
+unfolding flatMap positions
 entries-none s = refl
 
 pub entries-more : (s : Slots) (i : ℕ) → entriesUpTo s (i + 1) ≡ entriesUpTo s i ++ entryBytes (entryAt s i)
 unfolding positions
 entries-more s i =
     ap (entriesUpTo s) (add-one i)
-    ∙ ap (concat entryBytes) (map-append (entryAt s) (positions i) (i ∷ []))
-    ∙ concat-last entryBytes (map (entryAt s) (positions i)) (entryAt s i)
+    ∙ ap (flatMap entryBytes) (map-append (entryAt s) (positions i) (i ∷ []))
+    ∙ flatMap-last entryBytes (map (entryAt s) (positions i)) (entryAt s i)
 
 -- ---- records
 
 abbrev pub recordsUpTo : List ℕ → ℕ → List ℕ
-recordsUpTo records n = concat recordBytes (take n records)
+recordsUpTo records n = flatMap recordBytes (take n records)
 
 pub records-none : (records : List ℕ) → recordsUpTo records 0 ≡ []
-unfolding concat
+unfolding flatMap
 records-none records = refl
 
 pub records-more : (records : List ℕ) (i : ℕ) → i < length records → recordsUpTo records (i + 1) ≡ recordsUpTo records i ++ recordBytes (getD records i 0)
 records-more records i h =
     ap (recordsUpTo records) (add-one i)
-    ∙ ap (concat recordBytes) (take-suc records i 0 h)
-    ∙ concat-last recordBytes (take i records) (getD records i 0)
+    ∙ ap (flatMap recordBytes) (take-suc records i 0 h)
+    ∙ flatMap-last recordBytes (take i records) (getD records i 0)
 
 -- ---- written one behind the other
 

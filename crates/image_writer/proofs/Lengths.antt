@@ -1,7 +1,7 @@
 -- How many bytes the parts of an image take, and how many at most. Assumes nothing.
 use Prim.Native.Nat.{ℕ, zero, suc, _+_, _*_, _^_, _≤_, _<_}
 use mathlib.Core.Path.{_≡_, sym, ap, _∙_}
-use mathlib.Core.List.{List, [], _∷_, _++_, map}
+use mathlib.Core.List.{List, [], _∷_, _++_, map, flatMap}
 use mathlib.Core.Bool.{true}
 use native.Mathlib.Numerals.{add-one}
 use native.Mathlib.Nat.{suc-mul}
@@ -16,7 +16,7 @@ use Rattle.slots.proofs.View.{lengths-at}
 use Rattle.tlv.specs.Types.{endType}
 use Rattle.tlv.specs.Encoding.{numberBytes, octetsBytes, boolBytes}
 use Rattle.tlv.proofs.Codes.{number-length, octets-length, number-size-le, size-u8, size-u16, size-u32}
-use Rattle.image_writer.specs.Image.{keyBytes, entryBytes, recordBytes, concat, arrayBytes, imageBytes, keyLength, entryLength, recordLength, imageLengthMax}
+use Rattle.image_writer.specs.Image.{keyBytes, entryBytes, recordBytes, arrayBytes, imageBytes, keyLength, entryLength, recordLength, imageLengthMax}
 use Rattle.image_writer.proofs.Firsts.{entriesUpTo, entries-none, entries-more, recordsUpTo, records-none, records-more}
 
 -- ---- how many
@@ -134,11 +134,11 @@ records-le records n h =
 
 -- ---- the image
 
-pub image-length : (es : List SceneEntry) (rs : List ℕ) → 8 + length (concat entryBytes es) + length (concat recordBytes rs) ≡ length (imageBytes es rs)
+pub image-length : (es : List SceneEntry) (rs : List ℕ) → 8 + length (flatMap entryBytes es) + length (flatMap recordBytes rs) ≡ length (imageBytes es rs)
 unfolding imageBytes
 image-length es rs =
-    let a = concat entryBytes es in
-    let b = concat recordBytes rs in
+    let a = flatMap entryBytes es in
+    let b = flatMap recordBytes rs in
     let z : List ℕ = endType ∷ [] in
     let r : List ℕ = arrayBytes 1 b ++ z in
     omega (arith, length-append a z, length-append b z, length-append (b ++ z) z, length-append (a ++ z) r)

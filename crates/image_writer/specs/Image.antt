@@ -1,6 +1,6 @@
 -- The bytes that `to_tlv` of ScenesStateInner writes: document 02, Q-1. Numbers and lengths in their smallest width, under context tags.
 use Prim.Native.Nat.{ℕ, _+_, _*_}
-use mathlib.Core.List.{List, [], _∷_, _++_}
+use mathlib.Core.List.{List, [], _∷_, _++_, flatMap}
 use Rattle.words.specs.Words.{fabricOf, endpointOf, groupOf, sceneOf, keyOfRecord, isValid}
 use Rattle.slots.specs.Slots.{SceneEntry}
 use Rattle.tlv.specs.Types.{structType, arrayType, endType}
@@ -22,18 +22,13 @@ entryBytes e = (structType ∷ []) ++ (keyBytes (e .key) ++ (numberBytes 4 (e .t
 abbrev pub recordBytes : ℕ → List ℕ
 recordBytes word = (structType ∷ []) ++ (keyBytes (keyOfRecord word) ++ (boolBytes 4 (isValid word) ++ (endType ∷ [])))
 
--- one behind the other
-unfoldable pub concat : {A : Type 0} → (A → List ℕ) → List A → List ℕ
-concat f [] = []
-concat f (x ∷ xs) = f x ++ concat f xs
-
 abbrev pub arrayBytes : ℕ → List ℕ → List ℕ
 arrayBytes tag held = context tag arrayType ++ (held ++ (endType ∷ []))
 
 -- the entries in an array under tag 0, the records in one under tag 1
 unfoldable pub imageBytes : List SceneEntry → List ℕ → List ℕ
 imageBytes entries records =
-    (structType ∷ []) ++ (arrayBytes 0 (concat entryBytes entries) ++ (arrayBytes 1 (concat recordBytes records) ++ (endType ∷ [])))
+    (structType ∷ []) ++ (arrayBytes 0 (flatMap entryBytes entries) ++ (arrayBytes 1 (flatMap recordBytes records) ++ (endType ∷ [])))
 
 -- ---- how many bytes they take
 

@@ -8,13 +8,13 @@ use words::key_of_record;
 use words::scene_of;
 ghost use mathlib.Core.Path.{_≡_};
 ghost use mathlib.Core.Bool.{true};
-ghost use mathlib.Core.List.{map};
+ghost use mathlib.Core.List.{map, flatMap};
 ghost use Prim.Native.Nat.{_*_, _≤_};
 ghost use lib.ListN.{length, take};
 ghost use Rattle.words.specs.Constants.{stride, maxScenes, maxFields};
 ghost use Rattle.words.specs.Below.{positions};
 ghost use Rattle.slots.specs.Slots.{slotsOf, entryAt, lengthsSound};
-ghost use Rattle.image_writer.specs.Image.{entryBytes, recordBytes, concat, imageBytes, keyLength, entryLength, recordLength, imageLengthMax};
+ghost use Rattle.image_writer.specs.Image.{entryBytes, recordBytes, imageBytes, keyLength, entryLength, recordLength, imageLengthMax};
 
 // How long an image can be.
 pub struct ImageLength;
@@ -72,7 +72,7 @@ fn entries_len(keys: &[u64], times: &[u32], fields: &[u8], n: usize) -> usize
     requires { ⌜ lengthsSound (now fields) n ≡ true ⌝ }
     ensures { λ r.
         let slots = slotsOf (now (keys .entry)) (now (times .entry)) (now (fields .entry)) in
-        ⌜ r ≡ length (concat entryBytes (map (entryAt slots) (positions n))) ⌝ }
+        ⌜ r ≡ length (flatMap entryBytes (map (entryAt slots) (positions n))) ⌝ }
 {
     let mut len = 0;
     let mut i = 0;
@@ -87,7 +87,7 @@ fn entries_len(keys: &[u64], times: &[u32], fields: &[u8], n: usize) -> usize
 fn records_len(records: &[u64], n: usize) -> usize
     requires { ⌜ n ≤ maxScenes ⌝ }
     requires { ⌜ n ≤ length (now records) ⌝ }
-    ensures { λ r. ⌜ r ≡ length (concat recordBytes (take n (now (records .entry)))) ⌝ }
+    ensures { λ r. ⌜ r ≡ length (flatMap recordBytes (take n (now (records .entry)))) ⌝ }
 {
     let mut len = 0;
     let mut i = 0;

@@ -13,14 +13,14 @@ use words::key_of_record;
 use words::scene_of;
 ghost use mathlib.Core.Path.{_≡_};
 ghost use mathlib.Core.Bool.{true};
-ghost use mathlib.Core.List.{map};
+ghost use mathlib.Core.List.{map, flatMap};
 ghost use Prim.Native.Nat.{_*_, _≤_};
 ghost use lib.ListN.{length, take};
 ghost use Rattle.words.specs.Constants.{stride};
 ghost use Rattle.words.specs.Below.{positions};
 ghost use Rattle.slots.specs.Slots.{slotsOf, entryAt, lengthsSound};
 ghost use Rattle.text_output.specs.Writing.{sheet, puts};
-ghost use Rattle.image_writer.specs.Image.{keyBytes, entryOf, entryBytes, recordBytes, concat, arrayBytes, imageBytes};
+ghost use Rattle.image_writer.specs.Image.{keyBytes, entryOf, entryBytes, recordBytes, arrayBytes, imageBytes};
 
 // The context tags in an image.
 struct Tag;
@@ -88,7 +88,7 @@ fn put_entries(
     requires { ⌜ lengthsSound (now fields) n ≡ true ⌝ }
     ensures { λ r.
         let slots = slotsOf (now (keys .entry)) (now (times .entry)) (now (fields .entry)) in
-        ⌜ sheet (now (out .exit)) r ≡ puts (concat entryBytes (map (entryAt slots) (positions n))) (sheet (now (out .entry)) at) ⌝ }
+        ⌜ sheet (now (out .exit)) r ≡ puts (flatMap entryBytes (map (entryAt slots) (positions n))) (sheet (now (out .entry)) at) ⌝ }
 {
     let mut next = at;
     let mut i = 0;
@@ -102,7 +102,7 @@ fn put_entries(
 // The first n records.
 fn put_records(out: &mut [u8], at: usize, records: &[u64], n: usize) -> usize
     requires { ⌜ n ≤ length (now records) ⌝ }
-    ensures { λ r. ⌜ sheet (now (out .exit)) r ≡ puts (concat recordBytes (take n (now (records .entry)))) (sheet (now (out .entry)) at) ⌝ }
+    ensures { λ r. ⌜ sheet (now (out .exit)) r ≡ puts (flatMap recordBytes (take n (now (records .entry)))) (sheet (now (out .entry)) at) ⌝ }
 {
     let mut next = at;
     let mut i = 0;
@@ -128,7 +128,7 @@ fn put_entry_array(
     requires { ⌜ lengthsSound (now fields) n ≡ true ⌝ }
     ensures { λ r.
         let slots = slotsOf (now (keys .entry)) (now (times .entry)) (now (fields .entry)) in
-        ⌜ sheet (now (out .exit)) r ≡ puts (arrayBytes 0 (concat entryBytes (map (entryAt slots) (positions n)))) (sheet (now (out .entry)) at) ⌝ }
+        ⌜ sheet (now (out .exit)) r ≡ puts (arrayBytes 0 (flatMap entryBytes (map (entryAt slots) (positions n)))) (sheet (now (out .entry)) at) ⌝ }
 {
     let a = put_head(out, at, Tag::ENTRIES, ValueType::ARRAY);
     let b = put_entries(out, a, keys, times, fields, n);
@@ -139,7 +139,7 @@ fn put_entry_array(
 fn put_record_array(out: &mut [u8], at: usize, records: &[u64], n: usize) -> usize
     requires { ⌜ n ≤ length (now records) ⌝ }
     ensures { λ r.
-        ⌜ sheet (now (out .exit)) r ≡ puts (arrayBytes 1 (concat recordBytes (take n (now (records .entry))))) (sheet (now (out .entry)) at) ⌝ }
+        ⌜ sheet (now (out .exit)) r ≡ puts (arrayBytes 1 (flatMap recordBytes (take n (now (records .entry))))) (sheet (now (out .entry)) at) ⌝ }
 {
     let a = put_head(out, at, Tag::RECORDS, ValueType::ARRAY);
     let b = put_records(out, a, records, n);

@@ -25,8 +25,9 @@ use Rattle.commands.specs.Commands.{addScene, priorTime, stored, storeCaptured,
 use Rattle.observation.specs.Lists.{count, find, keep}
 use Rattle.observation.specs.Calls.{add, store, remove, removeAll, command, step, does, ofResult, CommandInRange, sceneKey, groupKey}
 use Rattle.observation.specs.Equivalence.{keyIs}
+use Rattle.image_gate.specs.Verdict.{isFound}
 use Rattle.observation.proofs.Lists.{has, takeOut}
-use Rattle.observation.proofs.Lookups.{holds, isAt, foundAt, entryOf}
+use Rattle.observation.proofs.Lookups.{holds, foundAt, entryOf}
 use Rattle.observation.proofs.Changes as changes
 use Rattle.observation.proofs.Changes.{viewOf, placeFor, entriesSet, invalidated, remembered}
 use Rattle.observation.proofs.Effects.{Seen, gateOf, done, refuse, timeOf}
@@ -40,11 +41,11 @@ use Rattle.requests.proofs.Passed.{add-passed, store-passed}
 -- ---- upsert
 
 module _ (key : SceneKey) (time : ℕ) (ext : List ℕ) (short : length ext ≤ maxFields) (k : keySound (wordOf key) ≡ true) (t : Table) (sd : sound t ≡ true) where
-  place : placeFor (wordOf key) (viewOf t) ≡ (isAt (findScene key t) || ltb (t .state .entries) (t .state .size))
+  place : placeFor (wordOf key) (viewOf t) ≡ (isFound (findScene key t) || ltb (t .state .entries) (t .state .size))
   unfolding viewOf
   place =
       ap (λ (b : Bool). b || ltb (length (entriesIn t)) (t .state .size)) (entries-has t (wordOf key))
-      ∙ ap (λ (n : ℕ). isAt (findScene key t) || ltb n (t .state .size)) (entries-length t)
+      ∙ ap (λ (n : ℕ). isFound (findScene key t) || ltb n (t .state .size)) (entries-length t)
 
   -- where there is a place the changed table goes on, else the table as it is
   module _ (after : Upserted → Result) (x y : Seen)
@@ -67,7 +68,7 @@ module _ (key : SceneKey) (time : ℕ) (ext : List ℕ) (short : length ext ≤ 
     unfolding upsert
     upserts =
         subst (λ (b : Bool). Acts (ofResult (after (upsert key time ext t))) (cond b x y)) (sym place)
-        ((elim (findScene key t) as (λ f. findScene key t ≡ f → Acts (ofResult (after (upsertAt f key time ext t))) (cond (isAt f || ltb (t .state .entries) (t .state .size)) x y))
+        ((elim (findScene key t) as (λ f. findScene key t ≡ f → Acts (ofResult (after (upsertAt f key time ext t))) (cond (isFound f || ltb (t .state .entries) (t .state .size)) x y))
         [ At p ↦ λ e. over p e | Nothing ↦ λ e. behind e ]) refl)
 
 -- ---- the other changes
@@ -149,7 +150,7 @@ module _ (f e : ℕ) (t : Table) (sd : sound t ≡ true) (hf : f < 2 ^ 8) (he : 
       acts-passed (refused t) t sd _ _ ofResult _ p
       (rw (entries-has t (wordOf key))
       ((elim (findScene key t) as (λ x. findScene key t ≡ x
-      → Acts (ofResult (removeFound x key t)) (cond (isAt x) (done true, invalidated (Scene key) (entriesSet (takeOut (keyIs (wordOf key)) (viewOf t .entries)) (viewOf t))) (refuse notFound, viewOf t))) [
+      → Acts (ofResult (removeFound x key t)) (cond (isFound x) (done true, invalidated (Scene key) (entriesSet (takeOut (keyIs (wordOf key)) (viewOf t .entries)) (viewOf t))) (refuse notFound, viewOf t))) [
         | At i ↦ λ q. results success true _ _ (invalidates (Scene key) _ _ (removes t sd (wordOf key) i q))
         | Nothing ↦ λ q. results notFound false t (viewOf t) (itself t sd)
       ]) refl))

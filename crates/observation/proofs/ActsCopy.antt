@@ -34,8 +34,9 @@ use Rattle.copies.proofs.Laws.{room-free}
 use Rattle.observation.specs.Lists.{find, keep}
 use Rattle.observation.specs.Calls.{copy, command, step, does, ofResult, CommandInRange, sceneKey, groupKey, copyRequest}
 use Rattle.observation.specs.Equivalence.{keyIs}
+use Rattle.image_gate.specs.Verdict.{isFound}
 use Rattle.observation.proofs.Lists.{has, put}
-use Rattle.observation.proofs.Lookups.{holds, isAt, foundAt, entryOf}
+use Rattle.observation.proofs.Lookups.{holds, foundAt, entryOf}
 use Rattle.observation.proofs.Changes.{View, viewOf, roomIn, written, invalidated, writtenAll}
 use Rattle.observation.proofs.Effects.{Seen, gateOf, refuse, done, first, sources, target, scopeOf, copied, copyOut}
 use Rattle.observation.proofs.Positions.{view-at, view-length}
@@ -100,14 +101,14 @@ module _ (t : Table) (sd : sound t ≡ true) (i : ℕ) (l : i < t .state .entrie
   copy-short : length (fieldsAt (t .slots .fields) i) ≤ maxFields
   copy-short = omega (arith, to-each t sd .length-at i l, length-take (lengthAt (t .slots .fields) i) (drop (i * stride + 1) (t .slots .fields)))
 
-  may-is : mayCopy t key ≡ (isAt (findScene key t) || ltb 0 (roomFor (t .state) (t .slots .keys) (key .fabric)))
+  may-is : mayCopy t key ≡ (isFound (findScene key t) || ltb 0 (roomFor (t .state) (t .slots .keys) (key .fabric)))
   unfolding viewOf
   may-is = ap₂ (λ (b : Bool) (n : ℕ). b || ltb 0 n) (entries-has t (wordOf key)) (sym (room (key .fabric) t))
 
   copies : mayCopy t key ≡ true → Walked (t .records) (copyEntry i key (itsEntries t)) (success, written (copyOf t i key) (viewOf t))
   unfolding copyEntry copyTo
   copies e =
-      (elim (findScene key t) as (λ x. findScene key t ≡ x → (isAt x || ltb 0 (roomFor (t .state) (t .slots .keys) (key .fabric))) ≡ true → Walked (t .records) (copyTo x i key (itsEntries t)) (success, written (copyOf t i key) (viewOf t))) [
+      (elim (findScene key t) as (λ x. findScene key t ≡ x → (isFound x || ltb 0 (roomFor (t .state) (t .slots .keys) (key .fabric))) ≡ true → Walked (t .records) (copyTo x i key (itsEntries t)) (success, written (copyOf t i key) (viewOf t))) [
         | At p ↦ λ q m. record { status = refl; shows = writes-over key _ _ copy-short k t sd p q }
         | Nothing ↦ λ q m.
             let h = ltb-true 0 (roomFor (t .state) (t .slots .keys) (key .fabric)) m in
@@ -119,7 +120,7 @@ module _ (t : Table) (sd : sound t ≡ true) (i : ℕ) (l : i < t .state .entrie
   stuck : mayCopy t key ≡ false → copyEntry i key (itsEntries t) ≡ copiedOf insufficientSpace (itsEntries t)
   unfolding copyEntry copyTo
   stuck e =
-      (elim (findScene key t) as (λ x. (isAt x || ltb 0 (roomFor (t .state) (t .slots .keys) (key .fabric))) ≡ false → copyTo x i key (itsEntries t) ≡ copiedOf insufficientSpace (itsEntries t)) [
+      (elim (findScene key t) as (λ x. (isFound x || ltb 0 (roomFor (t .state) (t .slots .keys) (key .fabric))) ≡ false → copyTo x i key (itsEntries t) ≡ copiedOf insufficientSpace (itsEntries t)) [
         | At p ↦ λ m. absurd (false≢true (sym m))
         | Nothing ↦ λ m. let h = ltb-false 0 (roomFor (t .state) (t .slots .keys) (key .fabric)) m in rw (eq-eqb (roomFor (t .state) (t .slots .keys) (key .fabric)) 0 (omega arith))
       ]) (sym may-is ∙ e)

@@ -1,7 +1,7 @@
 -- The tests by which an entry and a record are looked up in the views of a table, the entry that a write leaves, and the records that
 -- remembering leaves.
 use Prim.Native.Nat.{ℕ}
-use mathlib.Core.Bool.{Bool, true, false, cond, _||_}
+use mathlib.Core.Bool.{Bool, cond, _||_}
 use mathlib.Core.List.{List}
 use mathlib.Core.Option.{Option, none, some}
 use lib.Dec.{ltb}
@@ -25,11 +25,6 @@ abbrev pub ownedBy : ℕ → ℕ → ℕ → Bool
 ownedBy fabric endpoint word = owns word fabric endpoint
 
 -- ---- positions
-
--- whether something was found
-abbrev pub isAt : Found → Bool
-isAt (At p) = true
-isAt Nothing = false
 
 -- what stands where something was found
 abbrev pub foundAt : {A : Type 0} → (ℕ → A) → Found → Option A

@@ -20,8 +20,9 @@ use Rattle.state.specs.Table.{Table, entriesIn, recordsIn, withCurrent, withEnt
 use Rattle.state.specs.Sound.{sound}
 use Rattle.state.specs.Current.{rememberCurrent, invalidateCurrent}
 use Rattle.observation.specs.Lists.{bit, count, keep}
+use Rattle.image_gate.specs.Verdict.{isFound}
 use Rattle.observation.proofs.Lists.{has, put}
-use Rattle.observation.proofs.Lookups.{ownedBy, isAt, withRecord}
+use Rattle.observation.proofs.Lookups.{ownedBy, withRecord}
 use Rattle.observation.proofs.Counts.{both, count-le, count-map, count-put, count-keep, keep-map}
 use Rattle.observation.proofs.Firsts.{First, Nowhere, put-first, put-nowhere, count-nowhere, nowhere-count}
 use Rattle.observation.proofs.Positions.{keep-positions, view-first, view-nowhere}
@@ -123,7 +124,7 @@ module _ (t : Table) (sd : sound t ≡ true) (key : SceneKey) where
       let l = t .records in
       let own = ownedBy (key .fabric) (key .endpoint) in
       (elim (firstOwned l n (key .fabric) (key .endpoint)) as (λ f. firstOwned l n (key .fabric) (key .endpoint) ≡ f
-      → inUse (remember key size (recordsOf n l)) ≡ cond (isAt f || ltb n size) (put own (validRecord key) (take n l)) (take n l)) [
+      → inUse (remember key size (recordsOf n l)) ≡ cond (isFound f || ltb n size) (put own (validRecord key) (take n l)) (take n l)) [
         | At p ↦ λ e. over-view key size n l p e ∙ sym (put-first 0 own (validRecord key) (take n l) p (now-found p e))
         | Nothing ↦ λ e.
             (elim (ltb n size) as (λ b. ltb n size ≡ b → inUse (remember key size (recordsOf n l)) ≡ cond b (put own (validRecord key) (take n l)) (take n l)) [

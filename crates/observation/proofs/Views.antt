@@ -21,8 +21,9 @@ use Rattle.state.specs.Sound.{sound}
 use Rattle.state.proofs.Laws.{sound-room}
 use Rattle.observation.specs.Lists.{count, find}
 use Rattle.observation.specs.Equivalence.{keyIs}
+use Rattle.image_gate.specs.Verdict.{isFound}
 use Rattle.observation.proofs.Lists.{found, has}
-use Rattle.observation.proofs.Lookups.{holds, ownedBy, isAt, foundAt}
+use Rattle.observation.proofs.Lookups.{holds, ownedBy, foundAt}
 use Rattle.observation.proofs.Counts.{count-map, has-map}
 use Rattle.observation.proofs.Firsts.{find-first, find-nowhere}
 use Rattle.observation.proofs.Positions.{count-positions, has-positions, view-length, view-at, view-list, view-first, view-nowhere}
@@ -39,7 +40,7 @@ module _ {A : Type 0} (d : A) (g : ℕ → A) (h : A → Bool) (n : ℕ) where
         | Nothing ↦ λ e. find-nowhere d h (map g (positions n)) (view-nowhere d g h n e)
       ]) refl
 
-has-found : {A : Type 0} (g : ℕ → A) (f : Found) → found (foundAt g f) ≡ isAt f
+has-found : {A : Type 0} (g : ℕ → A) (f : Found) → found (foundAt g f) ≡ isFound f
 has-found g (At p) = refl
 has-found g Nothing = refl
 
@@ -61,7 +62,7 @@ module _ (t : Table) where
     unfolding entriesIn firstKey
     entries-find = find-view (entryAt (t .slots) 0) (entryAt (t .slots)) (keyIs k) (t .state .entries)
 
-    pub entries-has : has (keyIs k) (entriesIn t) ≡ isAt (firstKey (t .slots .keys) (t .state .entries) k)
+    pub entries-has : has (keyIs k) (entriesIn t) ≡ isFound (firstKey (t .slots .keys) (t .state .entries) k)
     entries-has = ap found entries-find ∙ has-found (entryAt (t .slots)) (firstKey (t .slots .keys) (t .state .entries) k)
 
 -- ---- the records
@@ -80,7 +81,7 @@ module _ (t : Table) (sd : sound t ≡ true) where
   records-find f e =
       ap (find (ownedBy f e)) (sym records-list) ∙ find-view 0 (λ i. getD (t .records) i 0) (ownedBy f e) (t .state .recorded)
 
-  pub records-has : (f e : ℕ) → has (ownedBy f e) (recordsIn t) ≡ isAt (firstOwned (t .records) (t .state .recorded) f e)
+  pub records-has : (f e : ℕ) → has (ownedBy f e) (recordsIn t) ≡ isFound (firstOwned (t .records) (t .state .recorded) f e)
   records-has f e = ap found (records-find f e) ∙ has-found (λ i. getD (t .records) i 0) (firstOwned (t .records) (t .state .recorded) f e)
 
   pub records-hit : (scope : Scope) → anyHit scope (t .records) (t .state .recorded) ≡ has (hits scope) (recordsIn t)

@@ -2,7 +2,7 @@
 -- Assumes nothing.
 use Prim.Native.Nat.{ℕ, suc, _+_}
 use mathlib.Core.Path.{_≡_, refl, ap, subst, _∙_}
-use mathlib.Core.List.{List, [], _∷_, _++_, append-assoc}
+use mathlib.Core.List.{List, [], _∷_, _++_, append-assoc, flatMap}
 use mathlib.Core.Option.{Option, some}
 use native.Mathlib.Omega.{arith}
 use lib.Dec.{eqb·suc-zero}
@@ -18,9 +18,9 @@ use Rattle.tlv.specs.Encoding.{context, Holds}
 use Rattle.tlv.proofs.Passes.{onward}
 use Rattle.tlv.proofs.Walks.{member-ends, member-goes}
 use Rattle.tlv.proofs.Trips.{holds-left, holds-right, holds-first, end-element, end-through, tagged-element, tagged-inside, tagged-through}
-use Rattle.image_reader.specs.Image.{inFront, membersFrom}
+use Rattle.image_reader.specs.Image.{prepended, membersFrom}
 use Rattle.image_reader.proofs.Listing.{members-end, members-more}
-use Rattle.image_writer.specs.Image.{concat, arrayBytes}
+use Rattle.image_writer.specs.Image.{arrayBytes}
 
 -- what is known of each element of a list
 abbrev pub Every : {A : Type 0} → (A → Type 0) → List A → Type 0
@@ -38,39 +38,39 @@ module _ {A : Type 0} (read : ℕ → Option A) (f : A → List ℕ) (Good : A �
     (stands : (x : A) → Good x → (p : ℕ) → Holds b p (f x) → Stands read b p (length (f x)) x) where
   -- the members, and the end behind them
   abbrev held : List A → List ℕ
-  held xs = concat f xs ++ (endType ∷ [])
+  held xs = flatMap f xs ++ (endType ∷ [])
 
   first : (x : A) (xs : List A) (p : ℕ) → Holds b p (held (x ∷ xs)) → Holds b p (f x) × Holds b (p + length (f x)) (held xs)
-  unfolding concat
+  unfolding flatMap
   first x xs p h =
-      let g = subst (Holds b p) (append-assoc (f x) (concat f xs) (endType ∷ [])) h in
+      let g = subst (Holds b p) (append-assoc (f x) (flatMap f xs) (endType ∷ [])) h in
       (holds-left b p (f x) (held xs) g, holds-right b p (f x) (held xs) g)
 
   pub members-read : (xs : List A) → Every Good xs → (p : ℕ) → Holds b p (held xs) → membersFrom read b p ≡ some xs
-  unfolding concat
+  unfolding flatMap
   members-read [] g p h =
       members-end read b p (member-ends b p (omega (arith, h .room)) _ (end-element b p (holds-first b p endType [] h) (omega (arith, h .room))) refl)
   members-read (x ∷ xs) g p h =
       let q = first x xs p h in
       let s = stands x (g .0) p (q .0) in
       members-more read b p (s .element) (p + length (f x)) (s .member) x (s .taken)
-      ∙ ap (inFront (some x)) (members-read xs (g .1) (p + length (f x)) (q .1))
+      ∙ ap (prepended (some x)) (members-read xs (g .1) (p + length (f x)) (q .1))
 
   members-through : (xs : List A) → Every Good xs → (p level : ℕ) → Holds b p (held xs)
       → passedFrom b (suc level) p ≡ onward b level (p + length (held xs))
-  unfolding concat
+  unfolding flatMap
   members-through [] g p level h = end-through b p (holds-first b p endType [] h) (omega (arith, h .room)) level
   members-through (x ∷ xs) g p level h =
       let q = first x xs p h in
       let e : p + length (f x) + length (held xs) ≡ p + length (held (x ∷ xs)) =
-      omega (arith, length-append (f x) (held xs), ap length (append-assoc (f x) (concat f xs) (endType ∷ []))) in
+      omega (arith, length-append (f x) (held xs), ap length (append-assoc (f x) (flatMap f xs) (endType ∷ []))) in
       stands x (g .0) p (q .0) .through (suc level)
       ∙ rw (eqb·suc-zero level)
       (members-through xs (g .1) (p + length (f x)) level (q .1) ∙ ap (onward b level) e)
 
   -- ---- the whole array
 
-  module _ (tag p : ℕ) (xs : List A) (g : Every Good xs) (h : Holds b p (arrayBytes tag (concat f xs))) where
+  module _ (tag p : ℕ) (xs : List A) (g : Every Good xs) (h : Holds b p (arrayBytes tag (flatMap f xs))) where
     array-head : Holds b p (context tag arrayType)
     array-head = holds-left b p (context tag arrayType) (held xs) h
 
@@ -84,8 +84,8 @@ module _ {A : Type 0} (read : ℕ → Option A) (f : A → List ℕ) (Good : A �
     array-read = members-read xs g (p + 2) array-held
 
     pub array-member : memberAt b p
-        ≡ Member (record { kind = arrayType; form = 1; tag = tag; value = p + 2; next = p + 2 }) (p + length (arrayBytes tag (concat f xs)))
+        ≡ Member (record { kind = arrayType; form = 1; tag = tag; value = p + 2; next = p + 2 }) (p + length (arrayBytes tag (flatMap f xs)))
     array-member =
-        let e : p + 2 + length (held xs) ≡ p + length (arrayBytes tag (concat f xs)) = omega (arith, length-append (context tag arrayType) (held xs)) in
+        let e : p + 2 + length (held xs) ≡ p + length (arrayBytes tag (flatMap f xs)) = omega (arith, length-append (context tag arrayType) (held xs)) in
         member-goes b p (omega (arith, h .room)) _ (tagged-element b p tag arrayType array-head (omega arith) (omega arith)) (λ z. omega arith) _
         (tagged-through b p tag arrayType array-head (omega arith) (omega arith) 0 ∙ members-through xs g (p + 2) 0 array-held ∙ ap At e)

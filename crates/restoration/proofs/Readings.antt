@@ -2,7 +2,7 @@
 use Prim.Native.Nat.{zero, suc}
 use mathlib.Core.Path.{_≡_, refl, sym, _∙_}
 use mathlib.Core.Bool.{true}
-use mathlib.Core.List.{[], _∷_}
+use mathlib.Core.List.{[], _∷_, flatMap}
 use native.Mathlib.Omega.{arith}
 use lib.ListN.{replicate}
 use Rattle.words.specs.Constants.{clashingImage}
@@ -20,7 +20,7 @@ use Rattle.tlv.specs.Passing.{nested, passed}
 use Rattle.tlv.specs.Values.{unsigned, numberAt, octets, octetsAt, insideAt}
 use Rattle.tlv.specs.Members.{memberAt, tagged, found}
 use Rattle.tlv.specs.Encoding.{lowFirst, smallest}
-use Rattle.image_writer.specs.Image.{concat, imageBytes}
+use Rattle.image_writer.specs.Image.{imageBytes}
 use Rattle.image_save.specs.Saving.{imageOf, TimesFit}
 use Rattle.image_reader.specs.Entries.{memberNumber, memberOctets, keyFrom, entryAt}
 use Rattle.image_reader.specs.Image.{membersRead, arrayUnder, arraysIn, imageIn}
@@ -47,7 +47,7 @@ unfolding known opens tagSize width measured lengthSize plainSize little sizeOf 
     nested passed unsigned numberAt octets octetsAt insideAt memberAt tagged found
     memberNumber memberOctets keyFrom entryAt membersRead arrayUnder arraysIn imageIn
     sound inBounds allOf keysSound lengthsSound recordsSound everyBelow refusalOf guarded entriesIn recordsIn positions
-    keysClash recordsClash anyBelow firstBelow orElse firstKey firstOwned verdict loadImage lowFirst smallest concat imageBytes
+    keysClash recordsClash anyBelow firstBelow orElse firstKey firstOwned verdict loadImage lowFirst smallest flatMap imageBytes
 twice-refused = refl
 
 -- "that 10 would not refuse" is needed

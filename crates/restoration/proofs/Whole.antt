@@ -1,7 +1,7 @@
 -- An image that is written is read back: `from_tlv` of what `to_tlv` writes. Assumes nothing.
 use Prim.Native.Nat.{ℕ, _+_, _≤_}
 use mathlib.Core.Path.{_≡_, refl, ap, _∙_}
-use mathlib.Core.List.{List, [], _∷_, _++_}
+use mathlib.Core.List.{List, [], _∷_, _++_, flatMap}
 use mathlib.Core.Option.{Option, none, some}
 use native.Mathlib.Omega.{arith}
 use lib.ListN.{length, getD}
@@ -15,17 +15,17 @@ use Rattle.tlv.proofs.Trips.{holds-left, holds-right, holds-first, open-inside}
 use Rattle.image_reader.specs.declared.Arrays.the-variants.{Both}
 use Rattle.image_reader.specs.Entries.{counting, entryAt, entryIn, recordAt}
 use Rattle.image_reader.specs.Image.{arrayUnder, arraysIn, imageIn}
-use Rattle.image_writer.specs.Image.{entryBytes, recordBytes, concat, arrayBytes, imageBytes}
+use Rattle.image_writer.specs.Image.{entryBytes, recordBytes, arrayBytes, imageBytes}
 use Rattle.restoration.proofs.Arrays.{Every, array-inside, array-read, array-member}
 use Rattle.restoration.proofs.Members.{GoodEntry, GoodRecord, entry-stands, record-stands}
 
 module _ (es : List SceneEntry) (rs : List ℕ) (ge : Every GoodEntry es) (gr : Every GoodRecord rs) where
   -- the parts of the image
   abbrev first : List ℕ
-  first = arrayBytes 0 (concat entryBytes es)
+  first = arrayBytes 0 (flatMap entryBytes es)
 
   abbrev second : List ℕ
-  second = arrayBytes 1 (concat recordBytes rs)
+  second = arrayBytes 1 (flatMap recordBytes rs)
 
   abbrev b : List ℕ
   b = (structType ∷ []) ++ (first ++ (second ++ (endType ∷ [])))
