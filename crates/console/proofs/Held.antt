@@ -4,7 +4,7 @@ use mathlib.Core.Path.{_≡_, ap, subst, _∙_}
 use mathlib.Core.Bool.{Bool, cond}
 use mathlib.Core.List.{List}
 use native.Mathlib.Omega.{arith}
-use lib.ListN.{length, take}
+use lib.ListN.{length, take, length-take}
 use borrow.Author.Tests.{lt-ltb, le-ltb}
 use Rattle.words.specs.Constants.{maxScenes}
 use Rattle.script_lines.specs.Lines.{mostImage}
@@ -15,7 +15,7 @@ use Rattle.text_output.proofs.Whole.{puts-whole}
 use Rattle.script.specs.declared.runner.Machine.{Machine}
 use Rattle.script.specs.Running.{counted, Session, session, runLine}
 use Rattle.script.proofs.Lengths.{error-puts, line-puts}
-use Rattle.console.specs.Whole.{longest, heldAnswer, Whole}
+use Rattle.console.specs.Whole.{longest, lineRoom, heldAnswer, Whole}
 
 module _ (m : Machine) (keys times fields records buffer line : List ℕ) (held : ℕ) (out : List ℕ) (at : ℕ) (after : List ℕ) (next : ℕ) where
   abbrev run-on : Sheet → Session
@@ -26,11 +26,14 @@ module _ (m : Machine) (keys times fields records buffer line : List ℕ) (held 
 
   -- s is the session that the line leaves
   pub ran-whole : {s : Session} → s ≡ run-on (sheet out at) → sheet after next ≡ s .output → length (s .buffer) ≤ mostImage
-      → held < length line → length keys ≤ maxScenes → length records ≤ maxScenes → at + longest ≤ length out
+      → held < length line → length line ≤ lineRoom → length keys ≤ maxScenes → length records ≤ maxScenes → at + longest ≤ length out
       → Whole (heldAnswer m keys times fields records buffer line held) out at after next
-  ran-whole q e i l k r o =
+  ran-whole q e i l h k r o =
       let few = subst (λ (s : Session). length (s .buffer) ≤ mostImage) q i in
-      let p = line-puts (counted m) keys times fields records buffer (take held line) mostImage longest (omega (arith, k, r)) (omega arith) (sheet out at) few in
+      let n = length-take held line in
+      let p =
+      line-puts (counted m) keys times fields records buffer (take held line) mostImage longest
+      (omega (arith, k, r)) (omega arith) (omega (arith, n, l, h)) (sheet out at) few in
       record {
         text = p .text;
         short = p .short;

@@ -15,6 +15,10 @@ use Rattle.script.specs.Running.{counted, session, runLine}
 abbrev pub longest : ℕ
 longest = 488862
 
+-- the buffer for lines: a line has fewer bytes
+abbrev pub lineRoom : ℕ
+lineRoom = 0x60000
+
 -- so many bytes of answers are held at most before the next line
 abbrev pub mostHeld : ℕ
 mostHeld = 0x10000

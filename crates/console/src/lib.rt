@@ -7,7 +7,7 @@ ghost use Prim.Native.Nat.{_+_, _≤_};
 ghost use lib.ListN.{length};
 ghost use Rattle.words.specs.Constants.{maxScenes};
 ghost use Rattle.script_lines.specs.Lines.{mostImage};
-ghost use Rattle.console.specs.Whole.{longest, mostHeld, heldAnswer, Whole};
+ghost use Rattle.console.specs.Whole.{longest, lineRoom, mostHeld, heldAnswer, Whole};
 
 // A line has fewer bytes than this: the longest image takes 350,224 digits, and longer ones are to be refused by the table.
 const LINE: usize = 0x6_0000;
@@ -64,6 +64,7 @@ fn run_held(
     requires { ⌜ length (now keys) ≤ maxScenes ⌝ }
     requires { ⌜ length (now records) ≤ maxScenes ⌝ }
     requires { ⌜ length (now buffer) ≤ mostImage ⌝ }
+    requires { ⌜ length (now line) ≤ lineRoom ⌝ }
     requires { ⌜ at + longest ≤ length (now out) ⌝ }
     ensures { λ r.
         let answer = heldAnswer machine (now (keys .entry)) (now (times .entry)) (now (fields .entry)) (now (records .entry))
@@ -102,6 +103,7 @@ fn step(
     requires { ⌜ length (now keys) ≤ maxScenes ⌝ }
     requires { ⌜ length (now records) ≤ maxScenes ⌝ }
     requires { ⌜ length (now buffer) ≤ mostImage ⌝ }
+    requires { ⌜ length (now line) ≤ lineRoom ⌝ }
     requires { ⌜ at ≤ mostHeld ⌝ }
     requires { ⌜ mostHeld + longest ≤ length (now out) ⌝ }
     ensures { λ r. ⌜ r .at ≤ mostHeld ⌝ }
@@ -150,6 +152,7 @@ fn feed(
     requires { ⌜ length (now keys) ≤ maxScenes ⌝ }
     requires { ⌜ length (now records) ≤ maxScenes ⌝ }
     requires { ⌜ length (now buffer) ≤ mostImage ⌝ }
+    requires { ⌜ length (now line) ≤ lineRoom ⌝ }
     requires { ⌜ mostHeld + longest ≤ length (now out) ⌝ }
 {
     let mut held = before;
@@ -226,6 +229,7 @@ fn run(
     requires { ⌜ length (now keys) ≤ maxScenes ⌝ }
     requires { ⌜ length (now records) ≤ maxScenes ⌝ }
     requires { ⌜ length (now buffer) ≤ mostImage ⌝ }
+    requires { ⌜ length (now line) ≤ lineRoom ⌝ }
 {
     let room: &mut [u8] = out;
     let mut m = machine;

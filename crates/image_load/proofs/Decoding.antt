@@ -15,12 +15,13 @@ use Rattle.slots.specs.Slots.{SceneEntry, keySound}
 use Rattle.records.specs.Records.{recordSound}
 use Rattle.tlv.specs.declared.members.Step.the-variants.{Member, End, Damaged}
 use Rattle.tlv.specs.Members.{memberAt, stepping}
+use Rattle.tlv.specs.Values.{counting}
 use Rattle.image_reader.specs.declared.Arrays.{Arrays}
 use Rattle.image_reader.specs.declared.Arrays.the-variants.{Both, NoArrays}
 use Rattle.image_reader.specs.declared.Entry.the-variants.{Scene, NoEntry}
 use Rattle.tlv.specs.declared.values.Number.{Number}
 use Rattle.tlv.specs.declared.values.Number.the-variants.{Value, NoNumber}
-use Rattle.image_reader.specs.Entries.{counting, entryAt, entryIn, sceneEntry, recordAt}
+use Rattle.image_reader.specs.Entries.{entryAt, entryIn, sceneEntry, recordAt}
 use Rattle.image_reader.specs.Image.{prepended, membersRead, entriesFrom, recordsFrom, atMost, joined, holding, arraysIn, Image, imageIn}
 use Rattle.image_reader.proofs.Bounds.{entry-bounds, record-bounds}
 use Rattle.image_load.proofs.Restoring.{each, short}

@@ -19,13 +19,13 @@ use Rattle.tlv.specs.declared.passing.Next.{Next}
 use Rattle.tlv.specs.declared.passing.Next.the-variants.{At, Broken}
 use Rattle.tlv.specs.Types.{u8Type, u16Type, u32Type, structType}
 use Rattle.tlv.specs.Passing.{going}
-use Rattle.tlv.specs.Values.{numberAt, octetsAt, insideAt}
+use Rattle.tlv.specs.Values.{numberAt, octetsAt, insideAt, counting}
 use Rattle.tlv.specs.Members.{Found, Missing, Spoiled, foundFrom}
 use Rattle.tlv.proofs.Says.{value-same, no-value, no-span, u8-under, u16-under, u32-under, octets-on}
 use Rattle.image_reader.specs.declared.Slot.{Slot}
 use Rattle.image_reader.specs.declared.Entry.{Entry}
 use Rattle.image_reader.specs.declared.Entry.the-variants.{Scene, NoEntry}
-use Rattle.image_reader.specs.Entries.{searching, counting, deciding, spanning, memberNumber, memberBool, memberOctets, keyFrom, entryAt, recordAt}
+use Rattle.image_reader.specs.Entries.{searching, deciding, spanning, memberNumber, memberBool, memberOctets, keyFrom, entryAt, recordAt}
 
 -- ---- what was gone on with
 

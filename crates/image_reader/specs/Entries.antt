@@ -16,7 +16,7 @@ use Rattle.tlv.specs.declared.values.Octets.{Octets}
 use Rattle.tlv.specs.declared.values.Octets.the-variants.{Span, NoOctets}
 use Rattle.tlv.specs.Types.{u8Type, u16Type, u32Type, structType}
 use Rattle.tlv.specs.Passing.{going}
-use Rattle.tlv.specs.Values.{numberAt, boolAt, octetsAt, insideAt}
+use Rattle.tlv.specs.Values.{numberAt, boolAt, octetsAt, insideAt, counting}
 use Rattle.tlv.specs.Members.{Search, Found, Missing, Spoiled, foundFrom}
 use Rattle.image_reader.specs.declared.Slot.{Slot}
 use Rattle.image_reader.specs.declared.Entry.{Entry}
@@ -27,10 +27,6 @@ abbrev pub searching : {A : Type 0} → Search → A → (ℕ → A) → A
 searching (Found at) other go = go at
 searching Missing other go = other
 searching Spoiled other go = other
-
-abbrev pub counting : {A : Type 0} → Number → A → (ℕ → A) → A
-counting (Value v) other go = go v
-counting NoNumber other go = other
 
 abbrev pub deciding : {A : Type 0} → Boolean → A → (Bool → A) → A
 deciding (Is b) other go = go b

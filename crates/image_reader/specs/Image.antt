@@ -12,11 +12,11 @@ use Rattle.tlv.specs.declared.passing.Next.{Next}
 use Rattle.tlv.specs.declared.passing.Next.the-variants.{Broken}
 use Rattle.tlv.specs.Types.{structType, arrayType}
 use Rattle.tlv.specs.Passing.{going}
-use Rattle.tlv.specs.Values.{insideAt}
+use Rattle.tlv.specs.Values.{insideAt, counting}
 use Rattle.tlv.specs.Members.{memberAt, stepping, foundFrom}
 use Rattle.image_reader.specs.declared.Arrays.{Arrays}
 use Rattle.image_reader.specs.declared.Arrays.the-variants.{Both, NoArrays}
-use Rattle.image_reader.specs.Entries.{searching, counting, entryAt, entryIn, recordAt}
+use Rattle.image_reader.specs.Entries.{searching, entryAt, entryIn, recordAt}
 
 -- ---- arrays
 

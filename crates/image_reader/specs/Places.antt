@@ -9,9 +9,9 @@ use Rattle.tlv.specs.declared.elements.Element.{Element}
 use Rattle.tlv.specs.declared.values.Number.{Number}
 use Rattle.tlv.specs.declared.values.Number.the-variants.{Value, NoNumber}
 use Rattle.tlv.specs.Types.{u8Type, u16Type, contextTagged}
-use Rattle.tlv.specs.Values.{numberAt}
+use Rattle.tlv.specs.Values.{numberAt, counting}
 use Rattle.tlv.specs.Members.{foundFrom}
-use Rattle.image_reader.specs.Entries.{searching, counting}
+use Rattle.image_reader.specs.Entries.{searching}
 
 -- how many tags count: 0 to 5
 abbrev pub tags : ℕ

@@ -1,4 +1,4 @@
--- What add, store, remove and remove all let be seen of a sound table, once their gates let them pass. Assumes nothing.
+-- What both adds, store, remove and remove all let be seen of a sound table, once their gates let them pass. Assumes nothing.
 use Prim.Native.Nat.{ℕ, _^_, _≤_, _<_}
 use mathlib.Core.Path.{_≡_, refl, sym, ap, _∙_, subst}
 use mathlib.Core.Bool.{Bool, true, false, cond, not, _||_}
@@ -20,23 +20,25 @@ use Rattle.state.specs.Table.{Table, entriesIn, withEntries, withCurrent}
 use Rattle.state.specs.Sound.{sound}
 use Rattle.state.specs.Current.{invalidateCurrent}
 use Rattle.state.specs.Change.{saved, findScene, append, Upserted, upsertedOf, written, upsertAt, upsert, swapRemove, retainOutside}
-use Rattle.state.specs.Answer.{Result, resultOf, refused}
+use Rattle.state.specs.Answer.{Result, resultOf, refused, refusalOf, guarded}
 use Rattle.commands.specs.Commands.{addScene, priorTime, stored, storeCaptured, storeScene, removeFound, removeScene, removedAll, removeAllScenes}
+use Rattle.add_read.specs.Adding.{addSceneRead}
 use Rattle.observation.specs.Lists.{count, find, keep}
-use Rattle.observation.specs.Calls.{add, store, remove, removeAll, command, step, does, ofResult, CommandInRange, sceneKey, groupKey}
+use Rattle.observation.specs.Calls.{add, addRead, store, remove, removeAll, command, step, does, ofResult, CommandInRange, sceneKey, groupKey}
 use Rattle.observation.specs.Equivalence.{keyIs}
 use Rattle.image_gate.specs.Verdict.{isFound}
 use Rattle.observation.proofs.Lists.{has, takeOut}
 use Rattle.observation.proofs.Lookups.{holds, foundAt, entryOf}
 use Rattle.observation.proofs.Changes as changes
 use Rattle.observation.proofs.Changes.{viewOf, placeFor, entriesSet, invalidated, remembered}
-use Rattle.observation.proofs.Effects.{Seen, gateOf, done, refuse, timeOf}
+use Rattle.observation.proofs.Effects.{Seen, gateOf, done, refuse, timeOf, addOut}
 use Rattle.observation.proofs.Views.{entries-has, entries-find, entries-length}
 use Rattle.observation.proofs.Entries.{removed, removed-sound, removed-only, retained, retained-count, retained-sound, retained-only}
 use Rattle.observation.proofs.Losses.{lost, none-lost, has-count}
 use Rattle.observation.proofs.Sound.{word-sound}
 use Rattle.observation.proofs.Acts.{Shows, itself, with-entries, invalidates, remembers, writes-over, writes-new, Acts, results, acts-passed}
-use Rattle.requests.proofs.Passed.{add-passed, store-passed}
+use Rattle.requests.proofs.Passed.{Named, add-passed, store-passed}
+use Rattle.observation.proofs.Passed.{addRead-passed}
 
 -- ---- upsert
 
@@ -103,19 +105,26 @@ module _ (t : Table) (sd : sound t ≡ true) where
 -- ---- the calls
 
 module _ (f e : ℕ) (t : Table) (sd : sound t ≡ true) (hf : f < 2 ^ 8) (he : e < 2 ^ 16) where
-  pub add-acts : (g s time : ℕ) (m : Membership) (pairs ext : List ℕ) → CommandInRange (add g s time m pairs ext) → gateOf f e (add g s time m pairs ext) ≡ success
-      → Acts (step (command f e (add g s time m pairs ext)) t)
-      (cond (placeFor (wordOf (sceneKey f e g s)) (viewOf t))
-      (done true, invalidated (Scene (sceneKey f e g s)) (changes.written (entryOf (sceneKey f e g s) time ext) (viewOf t)))
-      (refuse insufficientSpace, viewOf t))
-  unfolding step does addScene
-  add-acts g s time m pairs ext w p =
+  -- an add, behind whatever gate
+  adds : (g s time : ℕ) (ext : List ℕ) → g < 2 ^ 16 → s < 2 ^ 8 → (gate : ℕ) → gate ≡ success → Named (sceneKey f e g s) × (length ext ≤ maxFields)
+      → Acts (ofResult (guarded (refused t) (refusalOf t gate) (saved (upsert (sceneKey f e g s) time ext t))))
+      (addOut (sceneKey f e g s) time ext (viewOf t))
+  adds g s time ext hg hs gate p passed =
       let key = sceneKey f e g s in
-      let passed = add-passed key m time pairs maxFields (length ext) p in
-      let short = passed .1 in
-      let k = word-sound key (passed .0 .fabric) hf he (w .0) (w .1) in
+      let k = word-sound key (passed .0 .fabric) hf he hg hs in
       acts-passed (refused t) t sd _ _ ofResult _ p
-      (upserts key time ext short k t sd saved _ _ (λ u h. results success true u _ h) (results insufficientSpace false t (viewOf t) (itself t sd)))
+      (upserts key time ext (passed .1) k t sd saved _ _ (λ u h. results success true u _ h) (results insufficientSpace false t (viewOf t) (itself t sd)))
+
+  pub add-acts : (g s time : ℕ) (m : Membership) (pairs ext : List ℕ) → CommandInRange (add g s time m pairs ext) → gateOf f e (add g s time m pairs ext) ≡ success
+      → Acts (step (command f e (add g s time m pairs ext)) t) (addOut (sceneKey f e g s) time ext (viewOf t))
+  unfolding step does addScene
+  add-acts g s time m pairs ext w p = adds g s time ext (w .0) (w .1) _ p (add-passed (sceneKey f e g s) m time pairs maxFields (length ext) p)
+
+  pub addRead-acts : (g s time : ℕ) (m : Membership) (pairs ext : List ℕ) → CommandInRange (addRead g s time m pairs ext)
+      → gateOf f e (addRead g s time m pairs ext) ≡ success
+      → Acts (step (command f e (addRead g s time m pairs ext)) t) (addOut (sceneKey f e g s) time ext (viewOf t))
+  unfolding step does addSceneRead
+  addRead-acts g s time m pairs ext w p = adds g s time ext (w .0) (w .1) _ p (addRead-passed (sceneKey f e g s) m time pairs maxFields ext p)
 
   pub store-acts : (g s : ℕ) (m : Membership) (captured : List ℕ) → CommandInRange (store g s m captured) → gateOf f e (store g s m captured) ≡ success
       → Acts (step (command f e (store g s m captured)) t)

@@ -12,7 +12,8 @@ use Rattle.state.specs.Answer.{refused}
 use Rattle.commands.specs.Commands.{addScene, storeScene, removeScene, removeAllScenes, recallScene}
 use Rattle.copies.specs.Copy.{copyScene}
 use Rattle.reads.specs.Reads.{unread, viewScene, recallLookup, unlisted, getSceneMembership, noRow, readFabricSceneInfo}
-use Rattle.observation.specs.Calls.{Command, add, view, remove, removeAll, store, recall, copy, membership, info, Call, command, notice, removal, reset, start, failSafeEvent, load, step, does, next, withState, ofResult, ofView, ofRecall, ofList, ofInfo, sceneKey, CommandInRange, InRange}
+use Rattle.add_read.specs.Adding.{addSceneRead}
+use Rattle.observation.specs.Calls.{Command, add, addRead, view, remove, removeAll, store, recall, copy, membership, info, Call, command, notice, removal, reset, start, failSafeEvent, load, step, does, next, withState, ofResult, ofView, ofRecall, ofList, ofInfo, sceneKey, CommandInRange, InRange}
 use Rattle.observation.proofs.Changes.{viewOf}
 use Rattle.observation.proofs.Effects.{gateOf, refuse}
 use Rattle.observation.proofs.Laws.{CommandLaws, EventLaws, Laws}
@@ -25,8 +26,9 @@ use Rattle.observation.proofs.ActsLoad as loads
 
 module _ (f e : ℕ) (t : Table) (sd : sound t ≡ true) where
   turned : (c : Command) → (gateOf f e c ≡ success → ⊥) → Acts (step (command f e c) t) (refuse (gateOf f e c), viewOf t)
-  unfolding step does addScene storeScene removeScene removeAllScenes recallScene copyScene viewScene recallLookup getSceneMembership readFabricSceneInfo
+  unfolding step does addScene addSceneRead storeScene removeScene removeAllScenes recallScene copyScene viewScene recallLookup getSceneMembership readFabricSceneInfo
   turned (add g s time m pairs ext) n = acts-refused (refused t) t sd _ _ ofResult _ n (results _ false t (viewOf t) (itself t sd))
+  turned (addRead g s time m pairs ext) n = acts-refused (refused t) t sd _ _ ofResult _ n (results _ false t (viewOf t) (itself t sd))
   turned (view g s m) n = acts-refused (unread t) t sd _ _ (λ r. ofView r t) _ n (rw (ne-eqb _ success n) (record { seen = refl; stays = sd }))
   turned (remove g s m) n = acts-refused (refused t) t sd _ _ ofResult _ n (results _ false t (viewOf t) (itself t sd))
   turned (removeAll g m) n = acts-refused (refused t) t sd _ _ ofResult _ n (results _ false t (viewOf t) (itself t sd))
@@ -43,6 +45,7 @@ module _ (f e : ℕ) (t : Table) (sd : sound t ≡ true) (hf : f < 2 ^ 8) (he : 
   command-laws = record {
     refused-acts = λ c w n. turned f e t sd c n .seen;
     add-acts = λ g s time m pairs ext w p. commands.add-acts f e t sd hf he g s time m pairs ext w p .seen;
+    addRead-acts = λ g s time m pairs ext w p. commands.addRead-acts f e t sd hf he g s time m pairs ext w p .seen;
     view-acts = λ g s m w p. reads.view-acts f e t sd hf he g s m p .seen;
     remove-acts = λ g s m w p. commands.remove-acts f e t sd hf he g s m p .seen;
     removeAll-acts = λ g m w p. commands.removeAll-acts f e t sd hf he g m p .seen;
@@ -56,6 +59,7 @@ module _ (f e : ℕ) (t : Table) (sd : sound t ≡ true) (hf : f < 2 ^ 8) (he : 
   -- past the gate
   passed-sound : (c : Command) → CommandInRange c → gateOf f e c ≡ success → sound (next (command f e c) t) ≡ true
   passed-sound (add g s time m pairs ext) w p = commands.add-acts f e t sd hf he g s time m pairs ext w p .stays
+  passed-sound (addRead g s time m pairs ext) w p = commands.addRead-acts f e t sd hf he g s time m pairs ext w p .stays
   passed-sound (view g s m) w p = reads.view-acts f e t sd hf he g s m p .stays
   passed-sound (remove g s m) w p = commands.remove-acts f e t sd hf he g s m p .stays
   passed-sound (removeAll g m) w p = commands.removeAll-acts f e t sd hf he g m p .stays

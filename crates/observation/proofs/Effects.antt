@@ -8,6 +8,7 @@ use lib.Dec.{eqb}
 use lib.ListN.{length}
 use Rattle.words.specs.Constants.{success, insufficientSpace, notFound, applyFailed, badImage, clashingImage, maxFields, maxShown}
 use Rattle.words.specs.Words.{wordOf, groupOf, sceneOf, keyOfRecord, isValid, endpointKeys, groupKeys}
+use Rattle.words.specs.declared.SceneKey.{SceneKey}
 use Rattle.slots.specs.Slots.{SceneEntry}
 use Rattle.records.specs.declared.Scope.{Scope}
 use Rattle.records.specs.declared.Scope.the-variants.{Scene, Group}
@@ -19,12 +20,13 @@ use Rattle.state.specs.Table.{Table}
 use Rattle.reads.specs.Reads.{effectiveTime}
 use Rattle.image_reader.specs.Image.{Image}
 use Rattle.image_gate.specs.Verdict.{clashes}
+use Rattle.add_read.specs.Adding.{addReadGate}
 use Rattle.observation.specs.Lists.{bit, count, find, keep}
-use Rattle.observation.specs.Calls.{Command, add, view, remove, removeAll, store, recall, copy, membership, info, Call, Answer, answer, next, sceneKey, groupKey, copyRequest}
+use Rattle.observation.specs.Calls.{Command, add, addRead, view, remove, removeAll, store, recall, copy, membership, info, Call, Answer, answer, next, sceneKey, groupKey, copyRequest}
 use Rattle.observation.specs.Equivalence.{keyIs}
 use Rattle.observation.proofs.Lists.{found}
-use Rattle.observation.proofs.Lookups.{holds}
-use Rattle.observation.proofs.Changes.{View, viewOf, roomIn, currentIn, stepped, invalidated, writtenAll}
+use Rattle.observation.proofs.Lookups.{holds, entryOf}
+use Rattle.observation.proofs.Changes.{View, viewOf, roomIn, currentIn, placeFor, stepped, written, invalidated, writtenAll}
 
 -- what a call answers and what it leaves to be seen
 abbrev pub Seen : Type 0
@@ -45,6 +47,7 @@ shown l = record { status = success; save = false; values = l; ids = [] }
 -- what the request of a command decides alone
 abbrev pub gateOf : ℕ → ℕ → Command → ℕ
 gateOf f e (add g s time m pairs ext) = addGate (sceneKey f e g s) time m pairs maxFields (length ext)
+gateOf f e (addRead g s time m pairs ext) = addReadGate (sceneKey f e g s) time m pairs maxFields ext
 gateOf f e (view g s m) = lookupGate (sceneKey f e g s) m
 gateOf f e (remove g s m) = lookupGate (sceneKey f e g s) m
 gateOf f e (removeAll g m) = groupGate (groupKey f e g) m
@@ -71,6 +74,12 @@ applied Failed = false
 abbrev pub recalled : Transition → Applied → Option SceneEntry → Answer
 recalled o a none = refuse notFound
 recalled o a (some x) = record { status = cond (applied a) success applyFailed; save = applied a; values = effectiveTime o (x .time) ∷ x .fields; ids = [] }
+
+-- ---- adds, listed or through the reader
+
+abbrev pub addOut : SceneKey → ℕ → List ℕ → View → Seen
+addOut key time ext v =
+    cond (placeFor (wordOf key) v) (done true, invalidated (Scene key) (written (entryOf key time ext) v)) (refuse insufficientSpace, v)
 
 -- ---- copies
 

@@ -16,21 +16,20 @@ use Rattle.state.specs.Table.{Table}
 use Rattle.state.specs.Sound.{sound}
 use Rattle.image_reader.specs.Image.{imageIn}
 use Rattle.observation.specs.Lists.{find, keep}
-use Rattle.observation.specs.Calls.{Command, add, view, remove, removeAll, store, recall, copy, membership, info, Call, command, notice, removal, reset, start, failSafeEvent, load, next, sceneKey, groupKey, Bytes, CommandInRange, InRange}
+use Rattle.observation.specs.Calls.{Command, add, addRead, view, remove, removeAll, store, recall, copy, membership, info, Call, command, notice, removal, reset, start, failSafeEvent, load, next, sceneKey, groupKey, Bytes, CommandInRange, InRange}
 use Rattle.observation.specs.Equivalence.{keyIs, mine, ofFabric}
 use Rattle.observation.proofs.Lists.{has, takeOut}
 use Rattle.observation.proofs.Lookups.{holds, entryOf}
 use Rattle.observation.proofs.Changes.{View, viewOf, roomIn, placeFor, stepped, entriesSet, written, invalidated, remembered}
-use Rattle.observation.proofs.Effects.{sees, refuse, done, gateOf, timeOf, viewed, applied, recalled, sources, target, scopeOf, copyOut, idsIn, infoOut, loaded}
+use Rattle.observation.proofs.Effects.{sees, refuse, done, gateOf, timeOf, viewed, applied, recalled, addOut, sources, target, scopeOf, copyOut, idsIn, infoOut, loaded}
 
 -- the laws of one fabric's commands on one endpoint, of one sound table whose view is v
 pub record CommandLaws (f e : ℕ) (t : Table) (v : View) : Type 0 where
   pub refused-acts : (c : Command) → CommandInRange c → (gateOf f e c ≡ 0 → ⊥) → sees (command f e c) t ≡ (refuse (gateOf f e c), v)
   pub add-acts : (g s time : ℕ) (m : Membership) (pairs ext : List ℕ) → CommandInRange (add g s time m pairs ext) → gateOf f e (add g s time m pairs ext) ≡ 0
-      → sees (command f e (add g s time m pairs ext)) t
-      ≡ cond (placeFor (wordOf (sceneKey f e g s)) v)
-      (done true, invalidated (Scene (sceneKey f e g s)) (written (entryOf (sceneKey f e g s) time ext) v))
-      (refuse insufficientSpace, v)
+      → sees (command f e (add g s time m pairs ext)) t ≡ addOut (sceneKey f e g s) time ext v
+  pub addRead-acts : (g s time : ℕ) (m : Membership) (pairs ext : List ℕ) → CommandInRange (addRead g s time m pairs ext)
+      → gateOf f e (addRead g s time m pairs ext) ≡ 0 → sees (command f e (addRead g s time m pairs ext)) t ≡ addOut (sceneKey f e g s) time ext v
   pub view-acts : (g s : ℕ) (m : Membership) → CommandInRange (view g s m) → gateOf f e (view g s m) ≡ 0
       → sees (command f e (view g s m)) t ≡ (viewed (find (keyIs (wordOf (sceneKey f e g s))) (v .entries)), v)
   pub remove-acts : (g s : ℕ) (m : Membership) → CommandInRange (remove g s m) → gateOf f e (remove g s m) ≡ 0

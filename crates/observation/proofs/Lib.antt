@@ -9,8 +9,9 @@
 -- requests that are let through. `Respond` and `RespondCopy` say that commands keep both, `Probes` what tells two views apart. `Reach`, `Forward` and
 -- `Backward` bring this to tables, and `Theorem` has the theorems.
 -- What follows: `Readings` has counterexamples to nearby readings, `Removal` what a fabric's removal leaves, `Numbers` the numbers that
--- each call can answer, `Unsound` what a table that is not sound is answered, `Refusals` that a refusal is its number alone, `Midway` what
--- a copy that ran out leaves, `FieldBytes` whose fields an answered position has, `Buffers` what a scene list buffer counts for.
+-- each call can answer, `Unsound` what a table that is not sound is answered, `Refusals` that a refusal is its number alone and that 11 is
+-- decided by the inputs alone, `Midway` what a copy that ran out leaves, `FieldBytes` whose fields an answered position has, `Buffers` what a
+-- scene list buffer counts for.
 pub mod Lists
 pub mod Lookups
 pub mod Changes

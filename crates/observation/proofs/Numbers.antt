@@ -1,12 +1,12 @@
 -- Demand 1: for each call, the numbers that it can answer, and no others, whatever its inputs and the table. Assumes nothing.
 use Prim.Native.Nat.{ℕ, zero, suc, _+_}
 use mathlib.Core.Path.{_≡_, refl}
-use mathlib.Core.Bool.{Bool, true, false, cond, _||_}
+use mathlib.Core.Bool.{Bool, true, false, cond, not, _||_}
 use mathlib.Core.Option.{Option}
 use mathlib.Core.List.{List, [], _∷_, map}
 use lib.Dec.{eqb, ltb, leb}
 use lib.ListN.{length, getD}
-use Rattle.words.specs.Constants.{success, invalidCommand, constraintError, insufficientSpace, notFound, noFabric, membershipFailed, captureTooLong, applyFailed, singleElement, unsound, badPair, bufferTooShort, badImage, clashingImage, notScenable, clusterUnknown, globalScene, reservedScene, maxTime, maxFields}
+use Rattle.words.specs.Constants.{success, invalidCommand, constraintError, insufficientSpace, notFound, noFabric, membershipFailed, captureTooLong, applyFailed, singleElement, unsound, badPair, bufferTooShort, badImage, clashingImage, badFieldSets, notScenable, clusterUnknown, globalScene, reservedScene, maxTime, maxFields}
 use Rattle.words.specs.Words.{wordOf, groupKeys, endpointKeys}
 use Rattle.words.specs.declared.Found.{Found}
 use Rattle.words.specs.declared.Found.the-variants.{At, Nothing}
@@ -35,6 +35,8 @@ use Rattle.image_reader.specs.Image.{Image, imageIn}
 use Rattle.image_save.specs.Saving.{imageOf, Saved, unsaved, saveImage}
 use Rattle.image_gate.specs.Verdict.{clashes, verdict}
 use Rattle.image_load.specs.Loading.{loadImage}
+use Rattle.field_sets.specs.Reader.{setsIn, holdsPairs}
+use Rattle.add_read.specs.Adding.{fieldSetsGate, addReadGate, addSceneRead}
 use Rattle.lifecycle.specs.Lifecycle.{scenableAttributeChanged, removedFabric, removeForFabric, factoryReset, startup, failSafe}
 use Rattle.observation.specs.Numbers.{Among}
 use mathlib.Core.Option as option
@@ -91,7 +93,7 @@ module _ (P : ℕ → Type 0) (zero-is : P success) where
 -- ---- what the table decides
 
 module _ (P : ℕ → Type 0) (done : P success) where
-  upsert-is : P insufficientSpace → (key : SceneKey) (time : ℕ) (ext : List ℕ) (t : Table) → P (upsert key time ext t .status)
+  pub upsert-is : P insufficientSpace → (key : SceneKey) (time : ℕ) (ext : List ℕ) (t : Table) → P (upsert key time ext t .status)
   unfolding upsert upsertAt
   upsert-is full key time ext t = go (findScene key t)
     where
@@ -175,6 +177,16 @@ module _ (key : SceneKey) (m : Membership) (t : Table) where
       let P : ℕ → Type 0 = Among (0 ∷ 1 ∷ 2 ∷ 6 ∷ 7 ∷ 0x85 ∷ 0x87 ∷ 0x89 ∷ []) in
       guarded-is P refl (λ (r : Result). r .status) (refused t) (λ n. refl) t _ _ refl
       (first-each P refl _ (fabric-is P refl refl (key .fabric), (scene-is P refl refl (key .scene), (refuse-if P refl (ltb maxTime time) constraintError refl, (member-is P refl refl refl (key .group) m, (pairs-are P refl refl refl pairs, (refuse-if P refl (ltb maxFields (length ext)) insufficientSpace refl, tt)))))))
+      (upsert-is P refl refl key time ext t)
+
+  -- an add's numbers and 11
+  pub addRead-numbers : (time : ℕ) (pairs ext : List ℕ) → Among (0 ∷ 1 ∷ 2 ∷ 6 ∷ 7 ∷ 11 ∷ 0x85 ∷ 0x87 ∷ 0x89 ∷ []) (addSceneRead key time m pairs ext t .status)
+  unfolding addSceneRead addReadGate fieldSetsGate
+  addRead-numbers time pairs ext =
+      let P : ℕ → Type 0 = Among (0 ∷ 1 ∷ 2 ∷ 6 ∷ 7 ∷ 11 ∷ 0x85 ∷ 0x87 ∷ 0x89 ∷ []) in
+      let sets : P (fieldSetsGate pairs ext) = refuse-if P refl (not (holdsPairs (length pairs) (setsIn ext))) badFieldSets refl in
+      guarded-is P refl (λ (r : Result). r .status) (refused t) (λ n. refl) t _ _ refl
+      (first-each P refl _ (fabric-is P refl refl (key .fabric), (scene-is P refl refl (key .scene), (refuse-if P refl (ltb maxTime time) constraintError refl, (member-is P refl refl refl (key .group) m, (sets, (pairs-are P refl refl refl pairs, (refuse-if P refl (ltb maxFields (length ext)) insufficientSpace refl, tt))))))))
       (upsert-is P refl refl key time ext t)
 
   pub store-numbers : (captured : List ℕ) → Among (0 ∷ 1 ∷ 2 ∷ 3 ∷ 6 ∷ 0x85 ∷ 0x87 ∷ 0x89 ∷ []) (storeScene key m captured t .status)

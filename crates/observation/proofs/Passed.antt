@@ -1,16 +1,19 @@
--- Requests that are let through: those that tell two tables apart. Assumes nothing.
+-- Requests that are let through: those that tell two tables apart, and what an add through the reader has. Assumes nothing.
 use Prim.Native.Nat.{ℕ, _≤_}
 use native.Mathlib.Omega.{arith}
 use mathlib.Core.Path.{_≡_, refl, ap, _∙_}
 use mathlib.Core.Bool.{Bool, false}
-use mathlib.Core.List.{List, [], _∷_}
+use mathlib.Core.List.{List, [], _∷_, _++_}
 use lib.Dec.{eqb}
-use borrow.Author.Tests.{ne-eqb, le-ltb}
+use lib.ListN.{length}
+use borrow.Author.Tests.{ne-eqb, le-ltb, eqb-true, eqb-false}
 use Rattle.words.specs.declared.SceneKey.{SceneKey}
+use Rattle.requests.specs.declared.Membership.{Membership}
 use Rattle.requests.specs.declared.Membership.the-variants.{Yes}
-use Rattle.requests.specs.Requests.{firstRefusal, refuseIf, reserved, fabricGate, sceneGate, memberGate, pairsGate, addGate, storeGate, lookupGate, infoGate}
+use Rattle.requests.specs.Requests.{orNext, firstRefusal, refuseIf, reserved, fabricGate, sceneGate, memberGate, pairsGate, fieldsGate, addGate, storeGate, lookupGate, infoGate}
 use Rattle.requests.proofs.Laws.{next-pass}
-use Rattle.requests.proofs.Passed.{Named}
+use Rattle.requests.proofs.Passed.{Named, add-passed}
+use Rattle.add_read.specs.Adding.{earlyGates, fieldSetsGate, addReadGate}
 use Rattle.observation.proofs.Choices.{cond-elim}
 
 more : (r : ℕ) (rs : List ℕ) → r ≡ 0 → firstRefusal rs ≡ 0 → firstRefusal (r ∷ rs) ≡ 0
@@ -52,3 +55,21 @@ module _ (key : SceneKey) (n : Named key) where
 pub info-let : (f : ℕ) → 1 ≤ f → infoGate f false ≡ 0
 unfolding infoGate
 info-let f h = more _ _ (fabric-let f h) (more _ _ refl last)
+
+-- ---- an add through the reader
+
+-- a list of tests that lets a request through does so without one of them
+without : (xs : List ℕ) (r : ℕ) (ys : List ℕ) → firstRefusal (xs ++ (r ∷ ys)) ≡ 0 → firstRefusal (xs ++ ys) ≡ 0
+unfolding firstRefusal orNext
+without [] r ys = cond-elim (λ (n : ℕ). n ≡ 0 → firstRefusal ys ≡ 0) (eqb r 0) (λ _ z. z) (λ e z. absurd (eqb-false r 0 e z))
+without (x ∷ xs) r ys =
+    cond-elim (λ (n : ℕ). n ≡ 0 → firstRefusal (x ∷ (xs ++ ys)) ≡ 0) (eqb x 0)
+    (λ e z. more x (xs ++ ys) (eqb-true x 0 e) (without xs r ys z)) (λ e z. absurd (eqb-false x 0 e z))
+
+-- what a listed add has
+pub addRead-passed : (key : SceneKey) (m : Membership) (time : ℕ) (pairs : List ℕ) (limit : ℕ) (ext : List ℕ)
+    → addReadGate key time m pairs limit ext ≡ 0 → Named key × (length ext ≤ limit)
+unfolding addReadGate addGate
+addRead-passed key m time pairs limit ext z =
+    add-passed key m time pairs limit (length ext)
+    (without (earlyGates key time m) (fieldSetsGate pairs ext) (pairsGate pairs ∷ fieldsGate limit (length ext) ∷ []) z)

@@ -5,14 +5,16 @@ use mathlib.Core.Bool.{true, false}
 use mathlib.Core.List.{List, []}
 use mathlib.Core.Option.{Option, none, some}
 use lib.Dec.{eqb}
+use lib.ListN.{length}
 use borrow.Author.Tests.{eqb-true, eqb-false}
+use Rattle.words.specs.Constants.{maxFields}
 use Rattle.words.specs.Below.{positions}
 use Rattle.records.specs.declared.Scope.the-variants.{Endpoint}
 use Rattle.state.specs.Table.{Table, entriesIn, recordsIn}
 use Rattle.state.specs.Sound.{sound}
 use Rattle.image_reader.specs.Image.{Image, imageIn}
 use Rattle.image_gate.specs.Verdict.{clashes}
-use Rattle.observation.specs.Calls.{Command, add, view, remove, removeAll, store, recall, copy, membership, info, Call, command, notice, removal, reset, start, failSafeEvent, load, next, Bytes, CommandInRange, InRange}
+use Rattle.observation.specs.Calls.{Command, add, addRead, view, remove, removeAll, store, recall, copy, membership, info, Call, command, notice, removal, reset, start, failSafeEvent, load, next, sceneKey, Bytes, CommandInRange, InRange}
 use Rattle.observation.specs.Equivalence.{Reached, empty, after}
 use Rattle.observation.proofs.Changes.{View, viewOf, stepped}
 use Rattle.observation.proofs.Effects.{Seen, sees, gateOf, loadedBy, loaded}
@@ -20,8 +22,10 @@ use Rattle.observation.proofs.Laws.{Laws}
 use Rattle.observation.proofs.Sound.{to-each}
 use Rattle.observation.proofs.Invariant.{Inv, empty-inv, invalidated-inv, dropped-inv}
 use Rattle.observation.proofs.Loaded.{loaded-inv}
+use Rattle.observation.proofs.Passed.{addRead-passed}
 use Rattle.observation.proofs.Respond.{Responds, refused-responds, add-responds, view-responds, remove-responds, removeAll-responds, store-responds, recall-responds, membership-responds, info-responds}
 use Rattle.observation.proofs.RespondCopy.{copy-responds}
+use Rattle.requests.proofs.Passed.{add-passed}
 
 -- ---- commands
 
@@ -37,7 +41,11 @@ lawful-by {f} {e} {c} {r} h l = record { makes = r; law = l; responds = h }
 module _ (laws : Laws) where
   let-through : (f e : ℕ) (c : Command) → f < 2 ^ 8 → e < 2 ^ 16 → CommandInRange c → gateOf f e c ≡ 0 → Lawful f e c
   let-through f e (add g s time m pairs ext) hf he hc z =
-      lawful-by (add-responds f e hf he g s time m pairs ext hc z) (λ t S. laws .commands f e t S hf he .add-acts g s time m pairs ext hc z)
+      lawful-by (add-responds f e hf he _ g s time ext (hc .0) (hc .1) (add-passed (sceneKey f e g s) m time pairs maxFields (length ext) z))
+      (λ t S. laws .commands f e t S hf he .add-acts g s time m pairs ext hc z)
+  let-through f e (addRead g s time m pairs ext) hf he hc z =
+      lawful-by (add-responds f e hf he _ g s time ext (hc .0) (hc .1) (addRead-passed (sceneKey f e g s) m time pairs maxFields ext z))
+      (λ t S. laws .commands f e t S hf he .addRead-acts g s time m pairs ext hc z)
   let-through f e (view g s m) hf he hc z = lawful-by (view-responds f e hf he g s m hc) (λ t S. laws .commands f e t S hf he .view-acts g s m hc z)
   let-through f e (remove g s m) hf he hc z = lawful-by (remove-responds f e hf he g s m hc) (λ t S. laws .commands f e t S hf he .remove-acts g s m hc z)
   let-through f e (removeAll g m) hf he hc z = lawful-by (removeAll-responds f e hf he g m hc) (λ t S. laws .commands f e t S hf he .removeAll-acts g m hc z)

@@ -1,4 +1,5 @@
--- Every refusal is its number and nothing else, and what a whole-group copy that ran out midway leaves. Assumes nothing.
+-- Every refusal is its number and nothing else, what a whole-group copy that ran out midway leaves, and that 11 is decided by the inputs
+-- alone. Assumes nothing.
 use Prim.Native.Nat.{ℕ, zero, suc, min}
 use mathlib.Core.Path.{_≡_, refl, sym, ap, _∙_}
 use mathlib.Core.Bool.{Bool, true, false, _&&_}
@@ -7,7 +8,7 @@ use native.Mathlib.Omega.{arith}
 use lib.Dec.{eqb, ltb}
 use lib.ListN.{length, getD}
 use borrow.Author.Tests.{lt-ltb, ne-eqb, eqb-true, eqb-false}
-use Rattle.words.specs.Constants.{success, notFound, insufficientSpace, maxShown}
+use Rattle.words.specs.Constants.{success, notFound, insufficientSpace, badFieldSets, maxShown, maxFields}
 use Rattle.words.specs.Words.{wordOf, groupKeys}
 use Rattle.words.specs.declared.Found.{Found}
 use Rattle.words.specs.declared.Found.the-variants.{At, Nothing}
@@ -26,6 +27,7 @@ use Rattle.reads.specs.declared.Transition.{Transition}
 use Rattle.reads.specs.declared.SceneRead.{SceneRead}
 use Rattle.reads.specs.declared.InfoRead.{InfoRead}
 use Rattle.state.specs.Table.{Table, Entries, withEntries}
+use Rattle.state.specs.Sound.{sound}
 use Rattle.state.specs.Capacity.{mayAppend, roomFor, remaining}
 use Rattle.state.specs.Change.{saved, findScene, Upserted, upsertAt, upsert, retainOutside}
 use Rattle.state.specs.Answer.{Result, resultOf, refused, refusalOf, guarded}
@@ -35,10 +37,11 @@ use Rattle.reads.specs.Reads.{unread, readAt, recallLookup, viewScene, Listed, 
 use Rattle.lifecycle.specs.Lifecycle.{scenableAttributeChanged, removedFabric, removeForFabric, factoryReset, startup, failSafe}
 use Rattle.image_save.specs.Saving.{Saved, unsaved, saveImage}
 use Rattle.image_load.specs.Loading.{loadImage}
-use Rattle.observation.specs.Refusals.{Outward, add, store, remove, removeAll, recall, lookup, view, copy, membership, info, notice, removal, reset, start, failSafeEvent, save, load, Answered, result, scene, list, row, image, status, answer, only, EveryRefusal, outward, RefusedRun}
+use Rattle.add_read.specs.Adding.{addReadGate, addSceneRead}
+use Rattle.observation.specs.Refusals.{Outward, add, addRead, store, remove, removeAll, recall, lookup, view, copy, membership, info, notice, removal, reset, start, failSafeEvent, save, load, Answered, result, scene, list, row, image, status, answer, only, EveryRefusal, ElevenByInputs, outward, RefusedRun}
 use Rattle.observation.specs.Calls as calls
 use Rattle.observation.proofs.Choices.{cond-elim, and-other}
-use Rattle.observation.proofs.Numbers.{either}
+use Rattle.observation.proofs.Numbers.{either, upsert-is}
 
 -- ---- an answer that is a success, or its number alone
 
@@ -206,10 +209,11 @@ module _ (c : CopyRequest) (t : Table) where
 -- ---- the sentence
 
 pub every-refusal : EveryRefusal
-unfolding addScene storeScene storeCaptured removeScene removeAllScenes removedAll recallScene recallLookup viewScene
+unfolding addScene addSceneRead storeScene storeCaptured removeScene removeAllScenes removedAll recallScene recallLookup viewScene
     getSceneMembership readFabricSceneInfo scenableAttributeChanged removeForFabric removedFabric factoryReset startup failSafe
     saveImage loadImage
 every-refusal (add key time m pairs ext) t h x = ap result (result-bare t _ _ (saved-bare t _ (upsert-bare t key time ext)) h)
+every-refusal (addRead key time m pairs ext) t h x = ap result (result-bare t _ _ (saved-bare t _ (upsert-bare t key time ext)) h)
 every-refusal (store key m captured) t h x = ap result (result-bare t _ _ (stored-bare t key _ (upsert-bare t key _ _)) h)
 every-refusal (remove key m) t h x = ap result (result-bare t _ _ (removed-bare t (findScene key t) key) h)
 every-refusal (removeAll key m) t h x =
@@ -232,6 +236,22 @@ every-refusal failSafeEvent t h x = ap result (result-bare t _ _ (succeeded t _ 
 every-refusal (save buffer) t h x =
     ap image (guarded-bare (λ (s : Saved). s .answer .status) (unsaved buffer t) (λ _. refl) _ _ (λ z. absurd (z refl)) h)
 every-refusal (load bytes) t h x = ap result (result-bare t _ _ (succeeded t _ refl) h)
+
+-- ---- by the inputs alone
+
+-- behind the gate, which is of the inputs, an add is answered 0 or 0x89
+eleven-gate : (key : SceneKey) (time : ℕ) (m : Membership) (pairs ext : List ℕ) (t : Table) → sound t ≡ true
+    → eqb (addSceneRead key time m pairs ext t .status) badFieldSets ≡ eqb (addReadGate key time m pairs maxFields ext) badFieldSets
+unfolding addSceneRead refusalOf guarded
+eleven-gate key time m pairs ext t sd =
+    let gate : ℕ = addReadGate key time m pairs maxFields ext in
+    let is : ℕ → Bool = λ n. eqb n badFieldSets in
+    rw sd
+    (cond-elim (λ (r : Result). is (r .status) ≡ is gate) (eqb gate success)
+    (λ q. upsert-is (λ n. is n ≡ false) refl refl key time ext t ∙ sym (ap is (eqb-true gate success q))) (λ _. refl))
+
+pub eleven-by-inputs : ElevenByInputs
+eleven-by-inputs key time m pairs ext s t ss st = eleven-gate key time m pairs ext s ss ∙ sym (eleven-gate key time m pairs ext t st)
 
 -- ---- in the runs of demand 3
 
@@ -261,6 +281,7 @@ record Runs (t : Table) (c : calls.Call) : Type 0 where
 runs : (c : calls.Call) (t : Table) → Runs t c
 unfolding calls.step calls.does
 runs (calls.command f e (calls.add g s time m pairs ext)) t = record { number = refl; table = refl }
+runs (calls.command f e (calls.addRead g s time m pairs ext)) t = record { number = refl; table = refl }
 runs (calls.command f e (calls.view g s m)) t = record { number = refl; table = refl }
 runs (calls.command f e (calls.remove g s m)) t = record { number = refl; table = refl }
 runs (calls.command f e (calls.removeAll g m)) t = record { number = refl; table = refl }
@@ -282,6 +303,7 @@ runs (calls.load bytes) t = record { number = refl; table = refl }
 -- a number alone leaves the table
 left-only : (c : Outward) (t : Table) (n : ℕ) → left t (only c t n) ≡ t
 left-only (add key time m pairs ext) t n = refl
+left-only (addRead key time m pairs ext) t n = refl
 left-only (store key m captured) t n = refl
 left-only (remove key m) t n = refl
 left-only (removeAll key m) t n = refl

@@ -19,19 +19,19 @@ use Rattle.requests.specs.declared.Membership.{Membership}
 use Rattle.commands.specs.declared.Applied.{Applied}
 use Rattle.reads.specs.declared.Transition.{Transition}
 use Rattle.observation.specs.Lists.{bit, count, find, keep}
-use Rattle.observation.specs.Calls.{Command, add, view, remove, removeAll, store, recall, membership, info, Answer, sceneKey, groupKey, CommandInRange}
+use Rattle.observation.specs.Calls.{Command, view, remove, removeAll, store, recall, membership, info, Answer, sceneKey, groupKey, CommandInRange}
 use Rattle.observation.specs.Equivalence.{keyIs, Same, wholeCopy, mine, seen}
 use Rattle.observation.proofs.Lists.{found, has, takeOut, Often}
 use Rattle.observation.proofs.Lookups.{holds, entryOf}
 use Rattle.observation.proofs.Changes.{View, usedIn, roomIn, currentIn, placeFor, entriesSet, written, invalidated, remembered}
-use Rattle.observation.proofs.Effects.{Seen, refuse, done, shown, gateOf, timeOf, viewed, applied, recalled, idsIn, row, infoOut}
+use Rattle.observation.proofs.Effects.{Seen, refuse, done, shown, gateOf, timeOf, viewed, applied, recalled, addOut, idsIn, row, infoOut}
 use Rattle.observation.proofs.Counts.{count-keep, count-map, length-count, count-le, find-put}
 use Rattle.observation.proofs.Choices.{cond-elim, cond-two, has-same, count-has, less-takeOut, less-keep}
 use Rattle.observation.proofs.Bits.{key-fabric}
 use Rattle.observation.proofs.Invariant.{Inv, FineKey, named-fine, entry-fine, placed, put-room, written-inv, shrunk-inv, takeOut-good, keep-good, invalidated-inv, remembered-inv}
 use Rattle.observation.proofs.Simulation.{Within, Sim, key-within, sim-find, sim-room, sim-place, sim-found, sim-put, sim-takeOut, sim-keep, sim-invalidated, scene-seen, group-seen, sim-remembered}
 use Rattle.observation.proofs.Order.{ids-perm}
-use Rattle.requests.proofs.Passed.{add-passed, lookup-passed, store-passed}
+use Rattle.requests.proofs.Passed.{Named, lookup-passed, store-passed}
 
 -- two runs of a command: equal answers, and views alike, unless the list ends
 pub record Kept (f : ℕ) (c : Command) (o o′ : Seen) : Type 0 where
@@ -94,21 +94,18 @@ module _ (f e g : ℕ) (he : e < 2 ^ 16) (hg : g < 2 ^ 16) where
 -- ---- the commands and reads
 
 module _ (f e : ℕ) (hf : f < 2 ^ 8) (he : e < 2 ^ 16) where
-  pub add-responds : (g s time : ℕ) (m : Membership) (pairs ext : List ℕ) → CommandInRange (add g s time m pairs ext) → gateOf f e (add g s time m pairs ext) ≡ 0
-      → Responds f (add g s time m pairs ext) (λ v.
-      cond (placeFor (wordOf (sceneKey f e g s)) v)
-      (done true, invalidated (Scene (sceneKey f e g s)) (written (entryOf (sceneKey f e g s) time ext) v))
-      (refuse insufficientSpace, v))
-  add-responds g s time m pairs ext hc z =
+  -- c is an add of either kind
+  pub add-responds : (c : Command) (g s time : ℕ) (ext : List ℕ) → g < 2 ^ 16 → s < 2 ^ 8 → Named (sceneKey f e g s) × (length ext ≤ maxFields)
+      → Responds f c (addOut (sceneKey f e g s) time ext)
+  add-responds c g s time ext hg hs p =
       let key = sceneKey f e g s in
       let k = wordOf key in
       let x = entryOf key time ext in
-      let h : fabricOf k ≡ f = key-fabric f e g s hf he (hc .0) (hc .1) in
-      let p = add-passed key m time pairs maxFields (length ext) z in
-      let fine = entry-fine x (named-fine f e g s hf he (hc .0) (hc .1) (p .0 .fabric) (p .0 .scene)) (p .1) in
+      let h : fabricOf k ≡ f = key-fabric f e g s hf he hg hs in
+      let fine = entry-fine x (named-fine f e g s hf he hg hs (p .0 .fabric) (p .0 .scene)) (p .1) in
       record {
         alike = λ v w i j a.
-            cond-two (Kept f (add g s time m pairs ext)) (placeFor k v) (placeFor k w) (sim-place f v w a k h (j .good))
+            cond-two (Kept f c) (placeFor k v) (placeFor k w) (sim-place f v w a k h (j .good))
             (λ q _. kept refl (sim-invalidated f (Scene key) (written x v) (written x w) (scene-seen key) (sim-put f v w a x h (j .good) (i .room) (put-room x v (placed k v q) (i .room)))))
             (λ _ _. kept refl a);
         leaves = λ v i. cond-elim (λ (o : Seen). Inv (o .1)) (placeFor k v) (λ q. invalidated-inv (Scene key) (written x v) (written-inv x v fine (placed k v q) i)) (λ _. i);

@@ -14,7 +14,8 @@ use Rattle.copies.specs.Copy.{copyScene}
 use Rattle.reads.specs.Reads.{unread, viewScene, recallLookup, getSceneMembership, readFabricSceneInfo}
 use Rattle.lifecycle.specs.Lifecycle.{scenableAttributeChanged, removeForFabric, factoryReset, startup, failSafe}
 use Rattle.image_load.specs.Loading.{loadImage}
-use Rattle.observation.specs.Calls.{Command, add, view, remove, removeAll, store, recall, copy, membership, info, Call, command, notice, removal, reset, start, failSafeEvent, load, Out, withState, ofResult, ofView, ofRecall, ofList, ofInfo, sceneKey, does, step}
+use Rattle.add_read.specs.Adding.{addSceneRead}
+use Rattle.observation.specs.Calls.{Command, add, addRead, view, remove, removeAll, store, recall, copy, membership, info, Call, command, notice, removal, reset, start, failSafeEvent, load, Out, withState, ofResult, ofView, ofRecall, ofList, ofInfo, sceneKey, does, step}
 use Rattle.observation.specs.Refusals.{UnsoundRun}
 
 module _ (t : Table) (h : sound t ≡ false) where
@@ -31,8 +32,9 @@ module _ (t : Table) (h : sound t ≡ false) where
   Refused o = o ≡ (record { status = unsound; save = false; values = []; ids = [] }, t)
 
   does-refused : (f e : ℕ) (c : Command) → Refused (does f e c t)
-  unfolding does addScene viewScene removeScene removeAllScenes storeScene recallLookup recallScene copyScene getSceneMembership readFabricSceneInfo
+  unfolding does addScene addSceneRead viewScene removeScene removeAllScenes storeScene recallLookup recallScene copyScene getSceneMembership readFabricSceneInfo
   does-refused f e (add g s time m pairs ext) = ap ofResult (refuses _ _ _)
+  does-refused f e (addRead g s time m pairs ext) = ap ofResult (refuses _ _ _)
   does-refused f e (view g s m) = ap (λ r. ofView r t) (refuses _ _ _)
   does-refused f e (remove g s m) = ap ofResult (refuses _ _ _)
   does-refused f e (removeAll g m) = ap ofResult (refuses _ _ _)

@@ -1,5 +1,6 @@
 -- The calls on a table: what a member learns from each, and the table that each leaves. Each is one of the definitions that the
--- contracts cite, applied; there is no other definition of a call. Document 01, "In the sight of a fabric"; document 02, Q-1 (the load).
+-- contracts cite, applied; there is no other definition of a call. Document 01, "In the sight of a fabric"; document 02, Q-1 (the load) and
+-- Q-2 (the add through the reader).
 use Prim.Native.Nat.{ℕ, _^_, _<_}
 use mathlib.Core.Path.{_≡_}
 use mathlib.Core.Bool.{Bool, false, cond}
@@ -24,11 +25,13 @@ use Rattle.copies.specs.Copy.{copyScene}
 use Rattle.reads.specs.Reads.{viewScene, recallLookup, fieldBytes, Listed, getSceneMembership, readFabricSceneInfo}
 use Rattle.lifecycle.specs.Lifecycle.{scenableAttributeChanged, removeForFabric, factoryReset, startup, failSafe}
 use Rattle.image_load.specs.Loading.{loadImage}
+use Rattle.add_read.specs.Adding.{addSceneRead}
 use Rattle.observation.specs.Lists.{bit, count}
 
 -- a fabric's command or read on one of its endpoints, with what the host inputs; a scene list buffer is lent to membership
 pub data Command : Type 0 where
   add : (group scene time : ℕ) → Membership → (pairs ext : List ℕ) → Command
+  addRead : (group scene time : ℕ) → Membership → (pairs ext : List ℕ) → Command
   view : (group scene : ℕ) → Membership → Command
   remove : (group scene : ℕ) → Membership → Command
   removeAll : (group : ℕ) → Membership → Command
@@ -112,6 +115,7 @@ copyRequest f e mode g s h r = record { fabric = f; endpoint = e; mode = mode; f
 
 unfoldable pub does : ℕ → ℕ → Command → Table → Out
 does f e (add g s time m pairs ext) t = ofResult (addScene (sceneKey f e g s) time m pairs ext t)
+does f e (addRead g s time m pairs ext) t = ofResult (addSceneRead (sceneKey f e g s) time m pairs ext t)
 does f e (view g s m) t = ofView (viewScene (sceneKey f e g s) m t) t
 does f e (remove g s m) t = ofResult (removeScene (sceneKey f e g s) m t)
 does f e (removeAll g m) t = ofResult (removeAllScenes (groupKey f e g) m t)
@@ -149,6 +153,7 @@ override (Given o) = o
 
 abbrev pub CommandInRange : Command → Type 0
 CommandInRange (add g s time m pairs ext) = (g < 2 ^ 16) × (s < 2 ^ 8) × (time < 2 ^ 32) × Bytes pairs × Bytes ext
+CommandInRange (addRead g s time m pairs ext) = (g < 2 ^ 16) × (s < 2 ^ 8) × (time < 2 ^ 32) × Bytes pairs × Bytes ext
 CommandInRange (view g s m) = (g < 2 ^ 16) × (s < 2 ^ 8)
 CommandInRange (remove g s m) = (g < 2 ^ 16) × (s < 2 ^ 8)
 CommandInRange (removeAll g m) = g < 2 ^ 16

@@ -14,7 +14,7 @@ use Rattle.requests.specs.Requests.{wholeGroup}
 use Rattle.state.specs.Table.{Table, entriesIn, recordsIn}
 use Rattle.state.specs.Sound.{sound}
 use Rattle.observation.specs.Lists.{count, find, keep}
-use Rattle.observation.specs.Calls.{Command, add, view, remove, removeAll, store, recall, copy, membership, info, Call, command, notice, Answer, answer, next, InRange}
+use Rattle.observation.specs.Calls.{Command, add, addRead, view, remove, removeAll, store, recall, copy, membership, info, Call, command, notice, Answer, answer, next, InRange}
 
 -- ---- reached tables
 
@@ -48,6 +48,7 @@ Compared (noticed e) a b = Unit {0}
 
 abbrev pub wholeCopy : Command → Bool
 wholeCopy (add g s time m pairs ext) = false
+wholeCopy (addRead g s time m pairs ext) = false
 wholeCopy (view g s m) = false
 wholeCopy (remove g s m) = false
 wholeCopy (removeAll g m) = false

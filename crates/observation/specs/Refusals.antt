@@ -7,7 +7,7 @@ use mathlib.Core.List.{List, []}
 use mathlib.Core.Logic.{_⊎_}
 use lib.Dec.{eqb, ltb}
 use lib.ListN.{length, drop, getD}
-use Rattle.words.specs.Constants.{stride, success, insufficientSpace, unsound}
+use Rattle.words.specs.Constants.{stride, success, insufficientSpace, unsound, badFieldSets}
 use Rattle.words.specs.Words.{wordOf}
 use Rattle.words.specs.declared.SceneKey.{SceneKey}
 use Rattle.words.specs.declared.GroupKey.{GroupKey}
@@ -29,12 +29,14 @@ use Rattle.reads.specs.Reads.{unread, viewScene, recallLookup, Listed, unlisted
 use Rattle.lifecycle.specs.Lifecycle.{scenableAttributeChanged, removeForFabric, factoryReset, startup, failSafe}
 use Rattle.image_save.specs.Saving.{Saved, unsaved, saveImage}
 use Rattle.image_load.specs.Loading.{loadImage}
+use Rattle.add_read.specs.Adding.{addSceneRead}
 use Rattle.observation.specs.Calls as calls
 
 -- ---- the outward calls, each with all its inputs but the table
 
 pub data Outward : Type 0 where
   add : SceneKey → (time : ℕ) → Membership → (pairs ext : List ℕ) → Outward
+  addRead : SceneKey → (time : ℕ) → Membership → (pairs ext : List ℕ) → Outward
   store : SceneKey → Membership → (captured : List ℕ) → Outward
   remove : SceneKey → Membership → Outward
   removeAll : GroupKey → Membership → Outward
@@ -69,6 +71,7 @@ status (image s) = s .answer .status
 -- what a call answers: the definition that its contract cites
 abbrev pub answer : Outward → Table → Answered
 answer (add key time m pairs ext) t = result (addScene key time m pairs ext t)
+answer (addRead key time m pairs ext) t = result (addSceneRead key time m pairs ext t)
 answer (store key m captured) t = result (storeScene key m captured t)
 answer (remove key m) t = result (removeScene key m t)
 answer (removeAll key m) t = result (removeAllScenes key m t)
@@ -90,6 +93,7 @@ answer (load bytes) t = result (loadImage bytes t)
 -- The head as it came
 abbrev pub only : Outward → Table → ℕ → Answered
 only (add key time m pairs ext) t n = result (refused t n)
+only (addRead key time m pairs ext) t n = result (refused t n)
 only (store key m captured) t n = result (refused t n)
 only (remove key m) t n = result (refused t n)
 only (removeAll key m) t n = result (refused t n)
@@ -112,6 +116,7 @@ only (load bytes) t n = result (refused t n)
 -- 0x89 midway: a whole-group copy that had something remaining when it began, and ran out
 abbrev pub midway : Outward → Table → Bool
 midway (add key time m pairs ext) t = false
+midway (addRead key time m pairs ext) t = false
 midway (store key m captured) t = false
 midway (remove key m) t = false
 midway (removeAll key m) t = false
@@ -192,11 +197,20 @@ pub record RanOut (c : CopyRequest) (t : Table) (r : Result) : Type 0 where
 abbrev pub Midway : Type 0
 Midway = (c : CopyRequest) (m n : Membership) (t : Table) → midway (copy c m n) t ≡ true → RanOut c t (copyScene c m n t)
 
+-- ---- by the inputs alone
+
+-- 11 (document 02, Q-2): on any two sound tables the same add through the reader is answered it on both or on neither
+abbrev pub ElevenByInputs : Type 0
+ElevenByInputs =
+    (key : SceneKey) (time : ℕ) (m : Membership) (pairs ext : List ℕ) (s t : Table) → sound s ≡ true → sound t ≡ true
+    → eqb (addSceneRead key time m pairs ext s .status) badFieldSets ≡ eqb (addSceneRead key time m pairs ext t .status) badFieldSets
+
 -- ---- in the runs of demand 3
 
 -- a call of these runs as an outward call; of recall the command, since its lookup changes nothing
 abbrev pub outward : calls.Call → Outward
 outward (calls.command f e (calls.add g s time m pairs ext)) = add (calls.sceneKey f e g s) time m pairs ext
+outward (calls.command f e (calls.addRead g s time m pairs ext)) = addRead (calls.sceneKey f e g s) time m pairs ext
 outward (calls.command f e (calls.view g s m)) = view (calls.sceneKey f e g s) m
 outward (calls.command f e (calls.remove g s m)) = remove (calls.sceneKey f e g s) m
 outward (calls.command f e (calls.removeAll g m)) = removeAll (calls.groupKey f e g) m

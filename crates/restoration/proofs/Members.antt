@@ -17,7 +17,8 @@ use Rattle.tlv.specs.Encoding.{numberBytes, octetsBytes, boolBytes, Holds}
 use Rattle.tlv.proofs.Passes.{onward}
 use Rattle.tlv.proofs.Codes.{number-length, octets-length}
 use Rattle.tlv.proofs.Trips.{holds-first, holds-rest}
-use Rattle.image_reader.specs.Entries.{counting, entryAt, entryIn, recordAt}
+use Rattle.tlv.specs.Values.{counting}
+use Rattle.image_reader.specs.Entries.{entryAt, entryIn, recordAt}
 use Rattle.image_writer.specs.Image.{keyBytes, entryBytes, recordBytes}
 use Rattle.restoration.proofs.Trip.{keyEnd, fieldsStart, entryEnd, recordEnd, entry-read, fields-stand, entry-through, entry-member}
 use Rattle.restoration.proofs.Trip.{record-read, record-through, record-member}

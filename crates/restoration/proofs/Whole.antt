@@ -12,8 +12,9 @@ use Rattle.tlv.specs.Types.{structType, endType}
 use Rattle.tlv.specs.Encoding.{Holds}
 use Rattle.tlv.proofs.Walks.{find-tag, find-other}
 use Rattle.tlv.proofs.Trips.{holds-left, holds-right, holds-first, open-inside}
+use Rattle.tlv.specs.Values.{counting}
 use Rattle.image_reader.specs.declared.Arrays.the-variants.{Both}
-use Rattle.image_reader.specs.Entries.{counting, entryAt, entryIn, recordAt}
+use Rattle.image_reader.specs.Entries.{entryAt, entryIn, recordAt}
 use Rattle.image_reader.specs.Image.{arrayUnder, arraysIn, imageIn}
 use Rattle.image_writer.specs.Image.{entryBytes, recordBytes, arrayBytes, imageBytes}
 use Rattle.restoration.proofs.Arrays.{Every, array-inside, array-read, array-member}

@@ -1,25 +1,30 @@
 -- How long the answer to a line is at most. Assumes nothing.
 use Prim.Native.Nat.{ℕ, _+_, _*_, _≤_}
+use mathlib.Core.Path.{_≡_, refl}
 use mathlib.Core.Bool.{Bool, true, false, cond}
 use mathlib.Core.List.{List}
 use native.Mathlib.Omega.{arith}
 use lib.Dec.{eqb}
-use lib.ListN.{length}
+use lib.ListN.{length, getD}
+use borrow.Author.Tests.{eqb-true}
 use Rattle.text_output.specs.declared.reason.Reason.{Reason}
 use Rattle.text_output.specs.declared.reason.Reason.the-variants.{Unknown, Missing, TooMany, NotANumber, TooLarge, NotHex, NotDigits, NoTable, TooLong, ReadFailed}
 use Rattle.text_output.specs.Errors.{reasonText, errorLine}
 use Rattle.text_output.specs.Writing.{Sheet, writes, Puts}
 use Rattle.text_output.proofs.Whole.{total, puts-nothing, puts-most, number-length}
 use Rattle.script.specs.declared.runner.Machine.{Machine}
-use Rattle.script_lines.specs.Lines.{Said, Wrong, Call, lineSays, lineLeft}
+use Rattle.script_lines.specs.Lines.{Meaning, Number, Text, Unclear, Said, Wrong, Call, lineSays, lineLeft}
 use Rattle.script_lines.specs.Lines as lines
 use Rattle.script_lines.specs.Values.{valueAt}
+use Rattle.script_lines.proofs.Spelling.{spelt, Spells, line-spells}
 use Rattle.script_answers.specs.Done.{Called, answerOf}
 use Rattle.script_answers.specs.Answers.{sizeLine}
 use Rattle.script_answers.specs.Dump.{tableLines}
 use Rattle.script_answers.proofs.AnswerLengths.{all-puts, size-puts, table-puts, answerMost, answer-puts}
+use Rattle.script_sets.specs.Texts.{setsLine}
+use Rattle.script_sets.proofs.Lengths.{sets-puts}
 use Rattle.script.specs.Calls.{call}
-use Rattle.script.specs.Running.{Session, session, tableIn, answered, sized, wrong, called, obeyed, numbers, texts, saidRuns, runLine}
+use Rattle.script.specs.Running.{Session, session, tableIn, answered, sized, wrong, called, obeyed, numbers, textIn, texts, saidRuns, runLine}
 use Rattle.script.proofs.RunLaws.{call-fits}
 
 reason-length : (r : Reason) → length (reasonText r) ≤ 21
@@ -47,16 +52,28 @@ dumpMost keys records = 65 + length keys * 366 + length records * 90
 abbrev pub callMost : ℕ → ℕ
 callMost most = 21596 + most * 2
 
--- what a line is answered is one text, whatever the output holds, and no longer than either. The buffer counts as the line leaves it
-module _ (m : Machine) (k t f r buffer line : List ℕ) (most room : ℕ) (dump : dumpMost k r ≤ room) (answer : callMost most ≤ room) (s₀ : Sheet) where
+-- ten times the most that the sets in the bytes of a line of so many bytes take
+abbrev pub setsMost : ℕ → ℕ
+setsMost n = 11 * n + 730
+
+spelt-text : (m : Meaning) → length (textIn m) ≡ spelt m
+spelt-text (Number n) = refl
+spelt-text (Text bytes) = refl
+spelt-text (Unclear r) = refl
+
+-- what a line of n bytes is answered is one text, whatever the output holds, and no longer than any of these. The buffer counts as the line
+-- leaves it
+module _ (m : Machine) (k t f r buffer line : List ℕ) (most n room : ℕ) (dump : dumpMost k r ≤ room) (answer : callMost most ≤ room)
+    (shown : setsMost n ≤ 10 * room) (s₀ : Sheet) where
   abbrev on : Sheet → Session
   on s = session m k t f r buffer line s
 
   obeyed-puts : (letter : ℕ) (values : List ℕ) (bytes : ℕ → List ℕ)
+      → (letter ≡ 89 → 2 * length (bytes 0) ≤ n)
       → length (obeyed letter values bytes (on s₀) .buffer) ≤ most
       → Puts room (λ s. obeyed letter values bytes (on s) .output)
   unfolding obeyed
-  obeyed-puts letter values bytes =
+  obeyed-puts letter values bytes few =
       elim (eqb letter 78) as (λ b. length (numbered b s₀ .buffer) ≤ most → Puts room (λ s. numbered b s .output)) [
         | true ↦ λ h. puts-most 28 room _ (omega (arith, answer)) (size-puts (m .trace) (valueAt values 0))
         | false ↦
@@ -64,10 +81,15 @@ module _ (m : Machine) (k t f r buffer line : List ℕ) (most room : ℕ) (dump 
               | true ↦
                   elim (eqb letter 68) as (λ b. length (dumping b s₀ .buffer) ≤ most → Puts room (λ s. dumping b s .output)) [
                     | true ↦ λ h. puts-most (dumpMost k r) room _ dump (table-puts (tableIn (on s₀)))
-                    | false ↦ λ h.
-                        puts-most (answerMost (made .buffer)) room _ (let l = h in omega (arith, answer))
-                        (answer-puts (m .trace) letter (answerOf (made .done)) (made .buffer) (made .done .table .slots .fields)
-                        (call-fits letter values bytes buffer (tableIn (on s₀))))
+                    | false ↦
+                        elim (eqb letter 89) as
+                        (λ b. eqb letter 89 ≡ b → length (showing b s₀ .buffer) ≤ most → Puts room (λ s. showing b s .output)) [
+                          | true ↦ λ e h. sets-puts (bytes 0) (m .trace) (m .state) n room (few (eqb-true letter 89 e)) shown
+                          | false ↦ λ e h.
+                              puts-most (answerMost (made .buffer)) room _ (let l = h in omega (arith, answer))
+                              (answer-puts (m .trace) letter (answerOf (made .done)) (made .buffer) (made .done .table .slots .fields)
+                              (call-fits letter values bytes buffer (tableIn (on s₀))))
+                        ] refl
                   ]
               | false ↦ λ h. puts-most 48 room _ (omega (arith, answer)) (error-puts (m .lines) NoTable)
             ]
@@ -76,8 +98,11 @@ module _ (m : Machine) (k t f r buffer line : List ℕ) (most room : ℕ) (dump 
       made : Called
       made = call letter values bytes buffer (tableIn (on s₀))
 
+      showing : Bool → Sheet → Session
+      showing b s = cond b (answered m (setsLine (m .trace) (m .state) (bytes 0)) (on s)) (called letter values bytes (on s))
+
       dumping : Bool → Sheet → Session
-      dumping b s = cond b (answered m (tableLines (tableIn (on s))) (on s)) (called letter values bytes (on s))
+      dumping b s = cond b (answered m (tableLines (tableIn (on s))) (on s)) (showing (eqb letter 89) s)
 
       having : Bool → Sheet → Session
       having b s = cond b (dumping (eqb letter 68) s) (wrong NoTable (on s))
@@ -85,13 +110,17 @@ module _ (m : Machine) (k t f r buffer line : List ℕ) (most room : ℕ) (dump 
       numbered : Bool → Sheet → Session
       numbered b s = cond b (answered (sized (valueAt values 0) m) (writes (sizeLine (m .trace) (valueAt values 0))) (on s)) (having (m .present) s)
 
-  said-puts : (said : Said) → length (saidRuns said (on s₀) .buffer) ≤ most → Puts room (λ s. saidRuns said (on s) .output)
-  said-puts lines.Nothing h = puts-most 0 room (λ s. s) (omega arith) puts-nothing
-  said-puts (Wrong reason) h = puts-most 48 room _ (omega (arith, answer)) (error-puts (m .lines) reason)
-  said-puts (Call letter words) h = obeyed-puts letter (numbers words) (texts words) h
+  said-puts : (said : Said) → Spells n said → length (saidRuns said (on s₀) .buffer) ≤ most → Puts room (λ s. saidRuns said (on s) .output)
+  said-puts lines.Nothing few h = puts-most 0 room (λ s. s) (omega arith) puts-nothing
+  said-puts (Wrong reason) few h = puts-most 48 room _ (omega (arith, answer)) (error-puts (m .lines) reason)
+  said-puts (Call letter words) few h =
+      let e = spelt-text (getD words 0 (Number 0)) in
+      obeyed-puts letter (numbers words) (texts words) (λ y. let l = few y in omega arith) h
 
-pub line-puts : (m : Machine) (k t f r buffer line : List ℕ) (most room : ℕ) → dumpMost k r ≤ room → callMost most ≤ room → (s₀ : Sheet)
+pub line-puts : (m : Machine) (k t f r buffer line : List ℕ) (most room : ℕ)
+    → dumpMost k r ≤ room → callMost most ≤ room → setsMost (length line) ≤ 10 * room → (s₀ : Sheet)
     → length (runLine (session m k t f r buffer line s₀) .buffer) ≤ most
     → Puts room (λ s. runLine (session m k t f r buffer line s) .output)
-line-puts m k t f r buffer line most room dump answer s₀ h =
-    said-puts m k t f r buffer (lineLeft (m .trace) line) most room dump answer s₀ (lineSays (m .trace) line) h
+line-puts m k t f r buffer line most room dump answer shown s₀ h =
+    said-puts m k t f r buffer (lineLeft (m .trace) line) most (length line) room dump answer shown s₀ (lineSays (m .trace) line)
+    (line-spells (m .trace) line) h

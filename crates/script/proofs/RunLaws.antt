@@ -17,8 +17,9 @@ use Rattle.script_answers.specs.Answers.{answerLine, sizeLine, fits}
 use Rattle.script_answers.specs.Dump.{tableLines}
 use Rattle.script_answers.specs.Done.{doneOf, Called, calledOf}
 use Rattle.script_lines.specs.Values.{valueAt}
+use Rattle.script_sets.specs.Texts.{setsLine}
 use Rattle.script.specs.Calls.{call}
-use Rattle.script_commands.specs.Commands.{command, add, store, remove, removeAll, copy}
+use Rattle.script_commands.specs.Commands.{command, add, addRead, store, remove, removeAll, copy}
 use Rattle.script_reads.specs.Reads.{query, view, recall, listIn, list, info}
 use Rattle.script_events.specs.Writes.{hostWrite, setVersion, pushEntry, pushRecord}
 use Rattle.script_events.specs.Events.{event}
@@ -50,7 +51,7 @@ called-ends s letter a k t f w buffer o c p q =
 pub call-fits : (letter : ℕ) (values : List ℕ) (bytes : ℕ → List ℕ) (buffer : List ℕ) (t : Table) → fits (call letter values bytes buffer t .done .tail)
 unfolding call
 call-fits letter values bytes buffer t =
-    fit-called (oneOf letter (65 ∷ 83 ∷ 82 ∷ 88 ∷ 67 ∷ [])) _ _ (command-fits letter values bytes t)
+    fit-called (oneOf letter (65 ∷ 66 ∷ 83 ∷ 82 ∷ 88 ∷ 67 ∷ [])) _ _ (command-fits letter values bytes t)
     (fit-called (oneOf letter (86 ∷ 76 ∷ 77 ∷ 73 ∷ [])) _ _ (query-fits letter values buffer t)
     (fit-called (oneOf letter (75 ∷ 101 ∷ 114 ∷ [])) _ _ (write-fits letter values bytes t)
     (fit-called (oneOf letter (80 ∷ 71 ∷ [])) _ _ (image-fits letter values bytes buffer t) (event-fits letter values t))))
@@ -77,9 +78,15 @@ module _ (letter : ℕ) (values : List ℕ) (bytes : ℕ → List ℕ) (s : Sess
       unfolding obeyed
       obeys-table e = rw (ne-eqb letter 78 other, p, eq-eqb letter 68 e)
 
-      pub obeys-call : (letter ≡ 68 → ⊥) → called letter values bytes s ≡ obeyed letter values bytes s
-      unfolding obeyed
-      obeys-call h = rw (ne-eqb letter 78 other, p, ne-eqb letter 68 h)
+      module _ (h : letter ≡ 68 → ⊥) where
+        pub obeys-sets : letter ≡ 89
+            → answered (s .machine) (setsLine (s .machine .trace) (s .machine .state) (bytes 0)) s ≡ obeyed letter values bytes s
+        unfolding obeyed
+        obeys-sets e = rw (ne-eqb letter 78 other, p, ne-eqb letter 68 h, eq-eqb letter 89 e)
+
+        pub obeys-call : (letter ≡ 89 → ⊥) → called letter values bytes s ≡ obeyed letter values bytes s
+        unfolding obeyed
+        obeys-call n = rw (ne-eqb letter 78 other, p, ne-eqb letter 68 h, ne-eqb letter 89 n)
 
 -- ---- the words of a letter say what it takes
 
@@ -104,7 +111,7 @@ none-of letter ls n l y = ne-eqb letter l (λ e. false≢true (sym n ∙ ap (λ 
 
 -- the letters that take words
 abbrev worded : List ℕ
-worded = 78 ∷ 65 ∷ 83 ∷ 86 ∷ 82 ∷ 88 ∷ 67 ∷ 76 ∷ 77 ∷ 73 ∷ 84 ∷ 70 ∷ 75 ∷ 101 ∷ 114 ∷ 80 ∷ 71 ∷ []
+worded = 78 ∷ 65 ∷ 66 ∷ 83 ∷ 86 ∷ 82 ∷ 88 ∷ 67 ∷ 76 ∷ 77 ∷ 73 ∷ 84 ∷ 70 ∷ 75 ∷ 101 ∷ 114 ∷ 80 ∷ 71 ∷ 89 ∷ []
 
 -- any other letter asks for the same whatever is read behind it
 wordless : (letter : ℕ) → oneOf letter worded ≡ false → (values : List ℕ) (bytes : ℕ → List ℕ) (s : Session)
@@ -115,6 +122,7 @@ wordless letter n values bytes s =
     simp (
       no 78 refl,
       no 65 refl,
+      no 66 refl,
       no 83 refl,
       no 86 refl,
       no 82 refl,
@@ -130,6 +138,7 @@ wordless letter n values bytes s =
       no 114 refl,
       no 80 refl,
       no 71 refl,
+      no 89 refl,
     )
 
 module _ (values starts line : List ℕ) (s : Session) where
@@ -143,8 +152,8 @@ module _ (values starts line : List ℕ) (s : Session) where
       (texts (words letter)) s
 
   same-each : At Same worded
-  unfolding obeyed call oneOf command query hostWrite event add store view remove removeAll copy recall listIn list info setVersion pushEntry pushRecord image saveIn save load kindsOf positions
-  same-each = (refl, (refl, (refl, (refl, (refl, (refl, (refl, (refl, (refl, (refl, (refl, (refl, (refl, (refl, (refl, (refl, (refl, tt)))))))))))))))))
+  unfolding obeyed call oneOf command query hostWrite event add addRead store view remove removeAll copy recall listIn list info setVersion pushEntry pushRecord image saveIn save load kindsOf positions
+  same-each = (refl, (refl, (refl, (refl, (refl, (refl, (refl, (refl, (refl, (refl, (refl, (refl, (refl, (refl, (refl, (refl, (refl, (refl, (refl, tt)))))))))))))))))))
 
   pub same-words : (letter : ℕ) → Same letter
   same-words letter = cases Same letter worded same-each (λ n. wordless letter n _ _ s ∙ sym (wordless letter n _ _ s))

@@ -11,10 +11,10 @@ use Rattle.script_images.specs.Images.{image}
 use Rattle.script_events.specs.Events.{event}
 use Rattle.script_events.specs.Writes.{hostWrite}
 
--- A S R X C are commands, V L M I reads, K e r raw writes, P G images, and any other an event
+-- A B S R X C are commands, V L M I reads, K e r raw writes, P G images, and any other an event
 unfoldable pub call : ℕ → List ℕ → (ℕ → List ℕ) → List ℕ → Table → Called
 call letter values bytes buffer t =
-    cond (oneOf letter (65 ∷ 83 ∷ 82 ∷ 88 ∷ 67 ∷ [])) (calledOf (command letter values bytes t) buffer)
+    cond (oneOf letter (65 ∷ 66 ∷ 83 ∷ 82 ∷ 88 ∷ 67 ∷ [])) (calledOf (command letter values bytes t) buffer)
     (cond (oneOf letter (86 ∷ 76 ∷ 77 ∷ 73 ∷ [])) (query letter values buffer t)
     (cond (oneOf letter (75 ∷ 101 ∷ 114 ∷ [])) (calledOf (hostWrite letter values bytes t) buffer)
     (cond (oneOf letter (80 ∷ 71 ∷ [])) (image letter values bytes buffer t)

@@ -19,6 +19,7 @@ use Rattle.script_answers.specs.Dump.{tableLines}
 use Rattle.script_lines.specs.Lines.{Meaning, Number, Text, Unclear, Said, Nothing, Wrong, Call, lineSays, lineLeft}
 use Rattle.script_answers.specs.Done.{Called, answerOf}
 use Rattle.script_lines.specs.Values.{valueAt}
+use Rattle.script_sets.specs.Texts.{setsLine}
 use Rattle.script.specs.Calls.{call}
 
 -- ---- the machine
@@ -84,12 +85,14 @@ answeredCall letter c s = record {
 abbrev pub called : ℕ → List ℕ → (ℕ → List ℕ) → Session → Session
 called letter values bytes s = answeredCall letter (call letter values bytes (s .buffer) (tableIn s)) s
 
--- N makes a table; without one all else is an error; D shows it, and any other letter calls it
+-- N makes a table; without one all else is an error; D shows it, Y shows the sets in field bytes, and any other letter calls it
 unfoldable pub obeyed : ℕ → List ℕ → (ℕ → List ℕ) → Session → Session
 obeyed letter values bytes s =
     cond (eqb letter 78) (answered (sized (valueAt values 0) (s .machine)) (writes (sizeLine (s .machine .trace) (valueAt values 0))) s)
     (cond (s .machine .present)
-    (cond (eqb letter 68) (answered (s .machine) (tableLines (tableIn s)) s) (called letter values bytes s))
+    (cond (eqb letter 68) (answered (s .machine) (tableLines (tableIn s)) s)
+    (cond (eqb letter 89) (answered (s .machine) (setsLine (s .machine .trace) (s .machine .state) (bytes 0)) s)
+    (called letter values bytes s)))
     (wrong NoTable s))
 
 -- the number that a word says, 0 where it says bytes

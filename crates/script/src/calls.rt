@@ -32,7 +32,7 @@ pub(crate) fn call(
         ⌜ calledOf (doneOf r after) (now (buffer .exit)) ≡ call (read .letter) (read .values) bytes (now (buffer .entry)) before ⌝ }
 {
     let letter = read.letter;
-    if one_of(letter, b"ASRXC") {
+    if one_of(letter, b"ABSRXC") {
         return command(state, keys, times, fields, records, line, read);
     }
     if one_of(letter, b"VLMI") {

@@ -6,7 +6,9 @@ use script_answers::put_table;
 use script_lines::Line;
 use script_lines::Verdict;
 use script_lines::read_line;
+use script_sets::put_sets;
 use state::ScenesState;
+use text_input::part;
 use text_output::Reason;
 use text_output::put_error;
 ghost use mathlib.Core.Path.{_≡_};
@@ -16,6 +18,7 @@ ghost use Rattle.text_output.specs.Errors.{errorLine};
 ghost use Rattle.script_answers.specs.Answers.{sizeLine};
 ghost use Rattle.script_answers.specs.Dump.{tableLines};
 ghost use Rattle.script_lines.specs.Values.{bytesAt};
+ghost use Rattle.script_sets.specs.Texts.{setsLine};
 ghost use Rattle.script.specs.Running.{newMachine, counted, sized, Ended, session, called, obeyed, runLine};
 
 // What a run keeps from line to line: the head of the table, whether there is one, whether every call may be made or only those of
@@ -97,6 +100,20 @@ impl Machine {
         }
     }
 
+    // Y: the sets in field bytes. It leaves the table alone.
+    fn parsed(self, line: &[u8], out: &mut [u8], at: usize, read: Line) -> Ran
+        ensures { λ r.
+            let written = setsLine (self .trace) (self .state) (bytesAt read (now (line .entry)) 0) in
+            ⌜ Ended self written (now (out .entry)) at (now (out .exit)) r ⌝ }
+    {
+        let state = self.state;
+        let bytes = part(line, read.starts[0], read.values[0] as usize);
+        Ran {
+            machine: self,
+            at: put_sets(out, at, self.trace, state, bytes),
+        }
+    }
+
     // A call of the table.
     fn called(
         mut self,
@@ -153,6 +170,9 @@ impl Machine {
         if self.present {
             if read.letter == b'D' {
                 return self.dumped(keys, times, fields, records, out, at);
+            }
+            if read.letter == b'Y' {
+                return self.parsed(line, out, at, read);
             }
             return self.called(keys, times, fields, records, buffer, line, out, at, read);
         }

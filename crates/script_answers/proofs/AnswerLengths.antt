@@ -88,7 +88,7 @@ unfolding total
 size-puts true n = all-puts (sizeLine true n) 28 (let l = number-length n in omega arith)
 size-puts false n = all-puts (sizeLine false n) 28 (let l = number-length n in omega arith)
 
-head-puts : (trace : Bool) (letter : ℕ) (a : Answer) → Puts 70 (writes (headTexts trace letter a))
+pub head-puts : (trace : Bool) (letter : ℕ) (a : Answer) → Puts 70 (writes (headTexts trace letter a))
 unfolding total
 head-puts trace letter a =
     let s = status-length (a .status) in

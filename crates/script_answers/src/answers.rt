@@ -116,7 +116,7 @@ fn put_tail(out: &mut [u8], at: usize, tail: Tail, fields: &[u8], buffer: &[u8])
 }
 
 // What every answer starts with: letter, status, with the save mark in a trace, entries, with the records in a trace, version.
-fn put_head(out: &mut [u8], at: usize, trace: bool, letter: u8, answer: Answer) -> usize
+pub fn put_head(out: &mut [u8], at: usize, trace: bool, letter: u8, answer: Answer) -> usize
     ensures { λ r. ⌜ sheet (now (out .exit)) r ≡ writes (headTexts trace letter answer) (sheet (now (out .entry)) at) ⌝ }
 {
     let state = answer.state;

@@ -3,6 +3,7 @@ mod answers;
 mod dump;
 
 pub use answers::put_answer;
+pub use answers::put_head;
 pub use answers::put_size;
 pub use dump::put_table;
 use state::Outcome;

@@ -1,4 +1,4 @@
--- What the letters A, S, R, X and C ask of the table, and what it answers. The words of a line are numbers, `values`, and some spell
+-- What the letters A, B, S, R, X and C ask of the table, and what it answers. The words of a line are numbers, `values`, and some spell
 -- bytes. Letters are in ASCII codes.
 use Prim.Native.Nat.{ℕ}
 use mathlib.Core.Bool.{cond}
@@ -9,6 +9,7 @@ use Rattle.requests.specs.Requests.{membershipOf}
 use Rattle.state.specs.Table.{Table}
 use Rattle.commands.specs.Commands.{addScene, storeScene, removeScene, removeAllScenes}
 use Rattle.copies.specs.Copy.{copyScene}
+use Rattle.add_read.specs.Adding.{addSceneRead}
 use Rattle.script_lines.specs.Values.{byte, short, long, valueAt, sceneKey, groupKey}
 use Rattle.script_answers.specs.Done.{Done, plain}
 
@@ -24,6 +25,11 @@ copyRequest values = record {
 -- A, with the pairs and the fields
 unfoldable pub add : List ℕ → List ℕ → List ℕ → Table → Done
 add values pairs ext t = plain (addScene (sceneKey values) (long (valueAt values 4)) (membershipOf (byte (valueAt values 5))) pairs ext t)
+
+-- B: the same through the reader of field bytes
+unfoldable pub addRead : List ℕ → List ℕ → List ℕ → Table → Done
+addRead values pairs ext t =
+    plain (addSceneRead (sceneKey values) (long (valueAt values 4)) (membershipOf (byte (valueAt values 5))) pairs ext t)
 
 -- S, with the captured bytes
 unfoldable pub store : List ℕ → List ℕ → Table → Done
@@ -45,7 +51,8 @@ copy values t = plain (copyScene (copyRequest values) (membershipOf (byte (value
 unfoldable pub command : ℕ → List ℕ → (ℕ → List ℕ) → Table → Done
 command letter values bytes t =
     cond (eqb letter 65) (add values (bytes 6) (bytes 7) t)
+    (cond (eqb letter 66) (addRead values (bytes 6) (bytes 7) t)
     (cond (eqb letter 83) (store values (bytes 5) t)
     (cond (eqb letter 82) (remove values t)
     (cond (eqb letter 88) (removeAll values t)
-    (copy values t))))
+    (copy values t)))))

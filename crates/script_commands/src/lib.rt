@@ -1,4 +1,5 @@
 // The commands of a script that change the table, one for each letter: inputs from the words of a line, one call, what it answers.
+use add_read::add_scene_read;
 use requests::CopyRequest;
 use requests::GroupScene;
 use scenes::ScenesHandler;
@@ -16,7 +17,7 @@ ghost use mathlib.Core.Path.{_≡_};
 ghost use Rattle.state.specs.Table.{tableOf};
 ghost use Rattle.script_lines.specs.Values.{bytesAt};
 ghost use Rattle.script_answers.specs.Done.{doneOf};
-ghost use Rattle.script_commands.specs.Commands.{copyRequest, add, store, remove, removeAll, copy, command};
+ghost use Rattle.script_commands.specs.Commands.{copyRequest, add, addRead, store, remove, removeAll, copy, command};
 
 fn copy_request(read: Line) -> CopyRequest
     ensures { λ r. ⌜ r ≡ copyRequest (read .values) ⌝ }
@@ -68,6 +69,40 @@ fn add(
         member,
         pairs,
         ext,
+    ))
+}
+
+// B: add through the reader of field bytes.
+fn add_read(
+    state: ScenesState,
+    keys: &mut [u64],
+    times: &mut [u32],
+    fields: &mut [u8],
+    records: &mut [u64],
+    line: &[u8],
+    read: Line,
+) -> Answer
+    ensures { λ r.
+        let before = tableOf state (now (keys .entry)) (now (times .entry)) (now (fields .entry)) (now (records .entry)) in
+        let after = tableOf (r .state) (now (keys .exit)) (now (times .exit)) (now (fields .exit)) (now (records .exit)) in
+        ⌜ doneOf r after ≡ addRead (read .values) (bytesAt read (now (line .entry)) 6) (bytesAt read (now (line .entry)) 7) before ⌝ }
+{
+    let pairs = part(line, read.starts[6], read.values[6] as usize);
+    let bytes = part(line, read.starts[7], read.values[7] as usize);
+    let key = scene_key(read);
+    let time = long(read.values[4]);
+    let member = member(read.values[5]);
+    Answer::plain(add_scene_read(
+        state,
+        keys,
+        times,
+        fields,
+        records,
+        key,
+        time,
+        member,
+        pairs,
+        bytes,
     ))
 }
 
@@ -191,6 +226,7 @@ pub fn command(
     let letter = read.letter;
     match letter {
         b'A' => add(state, keys, times, fields, records, line, read),
+        b'B' => add_read(state, keys, times, fields, records, line, read),
         b'S' => store(state, keys, times, fields, records, line, read),
         b'R' => remove(state, keys, times, fields, records, read),
         b'X' => remove_all(state, keys, times, fields, records, read),

@@ -321,6 +321,7 @@ unfolding kindsOf
 all-ten letter =
     (ten-cond (eqb letter 78) ten-list
     (ten-cond (eqb letter 65) ten-list
+    (ten-cond (eqb letter 66) ten-list
     (ten-cond (eqb letter 83) ten-list
     (ten-cond (eqb letter 86) ten-list
     (ten-cond (eqb letter 82) ten-list
@@ -334,9 +335,10 @@ all-ten letter =
     (ten-cond (eqb letter 75) ten-list
     (ten-cond (eqb letter 80) ten-list
     (ten-cond (eqb letter 71) ten-list
+    (ten-cond (eqb letter 89) ten-list
     (ten-cond (eqb letter 101) ten-list
     (ten-cond (eqb letter 114) ten-list
-    ten-list)))))))))))))))))
+    ten-list)))))))))))))))))))
 
 pub kinds-length : (letter : ℕ) → length (kindsOf letter) ≡ 10
 kinds-length letter = all-ten letter .ten

@@ -25,11 +25,13 @@ unfoldable pub oneOf : ℕ → List ℕ → Bool
 oneOf letter [] = false
 oneOf letter (l ∷ ls) = cond (eqb letter l) true (oneOf letter ls)
 
--- N A S V are of both programs; R X C L M I T F Z U W E D K e r P G of scenetrace alone
+-- N A S V are of both programs; R X C L M I T F Z U W E D K e r P G B Y of scenetrace alone
 unfoldable pub known : ℕ → Bool → Bool
 known letter trace =
     cond (oneOf letter (78 ∷ 65 ∷ 83 ∷ 86 ∷ [])) true
-    (cond trace (oneOf letter (82 ∷ 88 ∷ 67 ∷ 76 ∷ 77 ∷ 73 ∷ 84 ∷ 70 ∷ 90 ∷ 85 ∷ 87 ∷ 69 ∷ 68 ∷ 75 ∷ 101 ∷ 114 ∷ 80 ∷ 71 ∷ [])) false)
+    (cond trace
+    (oneOf letter (82 ∷ 88 ∷ 67 ∷ 76 ∷ 77 ∷ 73 ∷ 84 ∷ 70 ∷ 90 ∷ 85 ∷ 87 ∷ 69 ∷ 68 ∷ 75 ∷ 101 ∷ 114 ∷ 80 ∷ 71 ∷ 66 ∷ 89 ∷ []))
+    false)
 
 -- the image buffer: as long as the image of 1,024 scenes can be
 abbrev pub mostImage : ℕ
@@ -44,6 +46,7 @@ unfoldable pub kindsOf : ℕ → List Kind
 kindsOf letter =
     cond (eqb letter 78) (Size ∷ End ∷ End ∷ End ∷ End ∷ End ∷ End ∷ End ∷ End ∷ End ∷ [])
     (cond (eqb letter 65) (sceneAnd Long Member Digits Hex)
+    (cond (eqb letter 66) (sceneAnd Long Member Digits Hex)
     (cond (eqb letter 83) (sceneAnd Member Hex End End)
     (cond (eqb letter 86) (sceneAnd Member End End End)
     (cond (eqb letter 82) (sceneAnd Member End End End)
@@ -57,9 +60,10 @@ kindsOf letter =
     (cond (eqb letter 75) (Long ∷ End ∷ End ∷ End ∷ End ∷ End ∷ End ∷ End ∷ End ∷ End ∷ [])
     (cond (eqb letter 80) (Length mostImage ∷ End ∷ End ∷ End ∷ End ∷ End ∷ End ∷ End ∷ End ∷ End ∷ [])
     (cond (eqb letter 71) (Hex ∷ End ∷ End ∷ End ∷ End ∷ End ∷ End ∷ End ∷ End ∷ End ∷ [])
+    (cond (eqb letter 89) (Hex ∷ End ∷ End ∷ End ∷ End ∷ End ∷ End ∷ End ∷ End ∷ End ∷ [])
     (cond (eqb letter 101) (sceneAnd Long Hex End End)
     (cond (eqb letter 114) (sceneAnd Flag End End End)
-    (End ∷ End ∷ End ∷ End ∷ End ∷ End ∷ End ∷ End ∷ End ∷ End ∷ [])))))))))))))))))
+    (End ∷ End ∷ End ∷ End ∷ End ∷ End ∷ End ∷ End ∷ End ∷ End ∷ [])))))))))))))))))))
 
 -- ---- a word
 

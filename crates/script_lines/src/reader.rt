@@ -106,6 +106,7 @@ fn kinds_of(letter: u8) -> [Kind; 10]
     match letter {
         b'N' => [Kind::Size, end, end, end, end, end, end, end, end, end],
         b'A' => scene_and(long, member, Kind::Digits, Kind::Hex),
+        b'B' => scene_and(long, member, Kind::Digits, Kind::Hex),
         b'S' => scene_and(member, Kind::Hex, end, end),
         b'V' | b'R' => scene_and(member, end, end, end),
         b'X' => [byte, short, short, member, end, end, end, end, end, end],
@@ -128,7 +129,7 @@ fn kinds_of(letter: u8) -> [Kind; 10]
         b'F' => [byte, end, end, end, end, end, end, end, end, end],
         b'K' => [long, end, end, end, end, end, end, end, end, end],
         b'P' => [image, end, end, end, end, end, end, end, end, end],
-        b'G' => [Kind::Hex, end, end, end, end, end, end, end, end, end],
+        b'G' | b'Y' => [Kind::Hex, end, end, end, end, end, end, end, end, end],
         b'e' => scene_and(long, Kind::Hex, end, end),
         b'r' => scene_and(flag, end, end, end),
         _ => [end, end, end, end, end, end, end, end, end, end],
@@ -157,7 +158,7 @@ fn is_known(letter: u8, trace: bool) -> bool
         return true;
     }
     if trace {
-        return one_of(letter, b"RXCLMITFZUWEDKerPG");
+        return one_of(letter, b"RXCLMITFZUWEDKerPGBY");
     }
     false
 }

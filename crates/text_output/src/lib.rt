@@ -5,6 +5,7 @@ mod reason;
 pub use output::end_line;
 pub use output::put;
 pub use output::put_bytes;
+pub use output::put_decimal;
 pub use output::put_error;
 pub use output::put_flag;
 pub use output::put_number;

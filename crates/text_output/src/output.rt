@@ -39,7 +39,7 @@ pub fn end_line(out: &mut [u8], at: usize) -> usize
 }
 
 // A number in decimal.
-fn put_decimal(out: &mut [u8], at: usize, n: u64) -> usize
+pub fn put_decimal(out: &mut [u8], at: usize, n: u64) -> usize
     ensures { λ r. ⌜ sheet (now (out .exit)) r ≡ puts (decimal n) (sheet (now (out .entry)) at) ⌝ }
 {
     if n < 10 {

@@ -27,6 +27,11 @@ unfoldable pub numberAt : ℕ → List ℕ → ℕ → Number
 numberAt most bytes at =
     reading (elementAt bytes at) NoNumber λ h. cond (unsigned most (h .kind)) (Value (little (width (h .kind)) bytes (h .value))) NoNumber
 
+-- goes on with a number, or without
+abbrev pub counting : {A : Type 0} → Number → A → (ℕ → A) → A
+counting (Value v) none go = go v
+counting NoNumber none go = none
+
 -- a boolean
 unfoldable pub boolAt : List ℕ → ℕ → Boolean
 boolAt bytes at =

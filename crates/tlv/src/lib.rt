@@ -20,6 +20,7 @@ pub use members::Step;
 pub use members::member_at;
 pub use passing::Next;
 pub use passing::container_next;
+pub use passing::is_container;
 pub use types::TagType;
 pub use types::ValueType;
 pub use values::Boolean;

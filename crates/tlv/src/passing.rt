@@ -14,7 +14,7 @@ pub enum Next {
 }
 
 // Whether a type is a container's.
-pub(crate) fn is_container(kind: u8) -> bool
+pub fn is_container(kind: u8) -> bool
     ensures { λ r. ⌜ r ≡ opens kind ⌝ }
 {
     if ValueType::NULL < kind {

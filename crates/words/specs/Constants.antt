@@ -56,6 +56,10 @@ badImage = 9
 abbrev pub clashingImage : ℕ
 clashingImage = 10
 
+-- field bytes that are no list of extension field sets, go deeper than 16, or hold another number of pairs than there are pair bytes
+abbrev pub badFieldSets : ℕ
+badFieldSets = 11
+
 -- pair bytes: the attribute is not scenable, or it is of a cluster that is not known
 abbrev pub notScenable : ℕ
 notScenable = 0

@@ -41,6 +41,8 @@ impl Fault {
     pub const BAD_IMAGE: u8 = 9;
 
     pub const CLASHING_IMAGE: u8 = 10;
+
+    pub const BAD_FIELD_SETS: u8 = 11;
 }
 
 // Scene ids that no command may name.

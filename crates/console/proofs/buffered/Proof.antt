@@ -1,4 +1,5 @@
 -- `console::buffered` is safe and ends. Assumes nothing.
+use native.Mathlib.Omega.{arith}
 use Rattle.console.proofs.Arrays.{array-long}
 use Rattle.console.proofs.buffered.Statement.{statement}
 use Rattle.console.proofs.buffered.Tie as tie
@@ -17,7 +18,7 @@ slice-aggregate-run-2 : tie.Need-slice-aggregate-run-2
 slice-aggregate-run-2 c = array-long 0x10000
 
 run-requires : tie.Need-run-requires
-run-requires c κs = start c .pre
+run-requires c κs = let p = start c .pre in (p .0, (p .1 .0, (p .1 .1, omega (arith, array-long 0x60000))))
 
 pub buffered-spec : {M : Type 1} → statement M
 buffered-spec =

@@ -56,7 +56,19 @@ step-requires c κs =
     let l = turn (gathered c) in
     let i = l .loop .inv in
     let p = start l .pre in
-    (omega (arith, i .0, p .0), (omega (arith, i .3, p .1 .0), (omega (arith, i .4, p .1 .1 .0), (i .7, omega (arith, i .6, p .1 .1 .1)))))
+    let g = gathered c .gather .kept .1 .1 .0 in (
+      omega (arith, i .0, p .0),
+      (
+        omega (arith, i .3, p .1 .0),
+        (
+          omega (arith, i .4, p .1 .1 .0),
+          (
+            omega (arith, g, i .5, p .1 .1 .1 .0),
+            (i .7, omega (arith, i .6, p .1 .1 .1 .1)),
+          ),
+        ),
+      ),
+    )
 
 loop-less : tie.Need-loop-less Inv-loop μ-loop
 loop-less c =

@@ -56,7 +56,7 @@ feed-requires c κs =
     let l = turn (part-read c) in
     let i = l .loop .inv in
     let p = start l .pre in
-    (omega (arith, i .0, p .0), (omega (arith, i .3, p .1 .0), (omega (arith, i .4, p .1 .1), i .7)))
+    (omega (arith, i .0, p .0), (omega (arith, i .3, p .1 .0), (omega (arith, i .4, p .1 .1 .0), (omega (arith, i .5, p .1 .1 .1), i .7))))
 
 sub-turns : tie.Need-sub-turns Inv-loop μ-loop
 sub-turns c = omega (arith, more (part-read (fed c .before)))

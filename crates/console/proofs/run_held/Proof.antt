@@ -41,7 +41,7 @@ returns c =
     ran-whole (a .machine) (a .keys .now) (a .times .now) (a .fields .now) (a .records .now) (a .buffer .now) (a .line .now) (a .held)
     (a .out .now) (a .at) _ _
     {s = left (ran c)} (d .run-line .ensures) refl (omega (arith, d .run-line .kept .1 .1 .1 .1 .1 .0, p .1 .1 .0)) (fits d .if1 .taken)
-    (p .0) (p .1 .0) (p .1 .1 .1)
+    (p .1 .1 .1 .0) (p .0) (p .1 .0) (p .1 .1 .1 .1)
 
 returns-2 : tie.Need-returns-2
 returns-2 c =
@@ -50,7 +50,7 @@ returns-2 c =
     let a = s .args in
     too-long-whole (a .machine) (a .keys .now) (a .times .now) (a .fields .now) (a .records .now) (a .buffer .now) (a .line .now) (a .held)
     (a .out .now) (a .at) _ _
-    (over d .if1 .left) (s .pre .1 .1 .1) (d .too-long .ensures .output)
+    (over d .if1 .left) (s .pre .1 .1 .1 .1) (d .too-long .ensures .output)
 
 pub run-held-spec : {M : Type 1} → statement M
 run-held-spec =

@@ -5,7 +5,8 @@ use native.Mathlib.Omega.{arith}
 use lib.ListN.{length}
 use Rattle.tlv.proofs.Walks.{member-on}
 use mathlib.Core.Option.{none, some}
-use Rattle.image_reader.specs.Entries.{counting, recordAt}
+use Rattle.tlv.specs.Values.{counting}
+use Rattle.image_reader.specs.Entries.{recordAt}
 use Rattle.tlv.specs.declared.values.Number.{Number}
 use Rattle.image_gate.specs.Verdict.{recordClashes}
 use Rattle.image_gate.proofs.Scanning.{Turn, records-local, turn-start, turn-end, turn-damaged, turn-unread, turn-full, turn-room, turn-next}

@@ -6,7 +6,8 @@ use native.Mathlib.Omega.{arith}
 use lib.ListN.{length}
 use Rattle.tlv.specs.declared.values.Number.{Number}
 use Rattle.tlv.proofs.Walks.{member-on}
-use Rattle.image_reader.specs.Entries.{counting, recordAt}
+use Rattle.tlv.specs.Values.{counting}
+use Rattle.image_reader.specs.Entries.{recordAt}
 use Rattle.image_load.proofs.Placing.{Laying, lay-start, lay-end, lay-damaged, lay-unread, lay-room, lay-next}
 use borrow.Author.Needs.{needs}
 use Rattle.image_load.proofs.writing.put_records.Statement.{statement}

@@ -57,7 +57,7 @@ abbrev kept : tie.After-one-of → Done → Called
 kept c d = calledOf d (start c .args .buffer .now)
 
 -- the letter is no command, no read, and no raw write
-no-command : (c : tie.Else1) → oneOf (start (c .before) .args .read .letter) (65 ∷ 83 ∷ 82 ∷ 88 ∷ 67 ∷ []) ≡ false
+no-command : (c : tie.Else1) → oneOf (start (c .before) .args .read .letter) (65 ∷ 66 ∷ 83 ∷ 82 ∷ 88 ∷ 67 ∷ []) ≡ false
 no-command c = sym (c .before .one-of .ensures) ∙ c .if1 .left
 
 no-read : (c : tie.Else2) → oneOf (start (tried (c .before) .before) .args .read .letter) (86 ∷ 76 ∷ 77 ∷ 73 ∷ []) ≡ false

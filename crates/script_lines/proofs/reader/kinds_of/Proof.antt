@@ -20,11 +20,11 @@ returns-3 c = rw (c .before .match .keys3) (c .scene-and2 .ensures)
 
 returns-4 : tie.Need-returns-4
 unfolding kindsOf
-returns-4 c = ⊎-elim (λ e. rw e (c .scene-and3 .ensures)) (λ e. rw e (c .scene-and3 .ensures)) (c .before .match .keys4)
+returns-4 c = rw (c .before .match .keys4) (c .scene-and3 .ensures)
 
 returns-5 : tie.Need-returns-5
 unfolding kindsOf
-returns-5 c = rw (c .match .keys5)
+returns-5 c = ⊎-elim (λ e. rw e (c .scene-and4 .ensures)) (λ e. rw e (c .scene-and4 .ensures)) (c .before .match .keys5)
 
 returns-6 : tie.Need-returns-6
 unfolding kindsOf
@@ -32,11 +32,11 @@ returns-6 c = rw (c .match .keys6)
 
 returns-7 : tie.Need-returns-7
 unfolding kindsOf
-returns-7 c = rw (c .before .match .keys7) (c .scene-and4 .ensures)
+returns-7 c = rw (c .match .keys7)
 
 returns-8 : tie.Need-returns-8
 unfolding kindsOf
-returns-8 c = rw (c .match .keys8)
+returns-8 c = rw (c .before .match .keys8) (c .scene-and5 .ensures)
 
 returns-9 : tie.Need-returns-9
 unfolding kindsOf
@@ -64,7 +64,7 @@ returns-14 c = rw (c .match .keys14)
 
 returns-15 : tie.Need-returns-15
 unfolding kindsOf
-returns-15 c = rw (c .before .match .keys15) (c .scene-and5 .ensures)
+returns-15 c = ⊎-elim (λ e. rw e) (λ e. rw e) (c .match .keys15)
 
 returns-16 : tie.Need-returns-16
 unfolding kindsOf
@@ -72,9 +72,14 @@ returns-16 c = rw (c .before .match .keys16) (c .scene-and6 .ensures)
 
 returns-17 : tie.Need-returns-17
 unfolding kindsOf
-returns-17 c =
+returns-17 c = rw (c .before .match .keys17) (c .scene-and7 .ensures)
+
+returns-18 : tie.Need-returns-18
+unfolding kindsOf
+returns-18 c =
     let no = c .match .rest in
     rw (
+      ne-eqb _ _ (no .0 .0 .0 .0 .0 .0 .0 .0 .0 .0 .0 .0 .0 .0 .0 .0 .1),
       ne-eqb _ _ (no .0 .0 .0 .0 .0 .0 .0 .0 .0 .0 .0 .0 .0 .0 .0 .1),
       ne-eqb _ _ (no .0 .0 .0 .0 .0 .0 .0 .0 .0 .0 .0 .0 .0 .0 .1),
       ne-eqb _ _ (no .0 .0 .0 .0 .0 .0 .0 .0 .0 .0 .0 .0 .0 .1),
@@ -89,7 +94,8 @@ returns-17 c =
       ne-eqb _ _ (no .0 .0 .0 .0 .0 .1),
       ne-eqb _ _ (no .0 .0 .0 .0 .1),
       ne-eqb _ _ (no .0 .0 .0 .1),
-      ne-eqb _ _ (no .0 .0 .1),
+      ne-eqb _ 71 (λ e. no .0 .0 .1 (inl e)),
+      ne-eqb _ 89 (λ e. no .0 .0 .1 (inr e)),
       ne-eqb _ _ (no .0 .1),
       ne-eqb _ _ (no .1),
     )
@@ -98,6 +104,7 @@ pub kinds-of-spec : {M : Type 1} → statement M
 kinds-of-spec =
     tie.close
     (tie.spec
+    (λ c κs. search needs)
     (λ c κs. search needs)
     (λ c κs. search needs)
     (λ c κs. search needs)
@@ -120,4 +127,5 @@ kinds-of-spec =
     returns-14
     returns-15
     returns-16
-    returns-17)
+    returns-17
+    returns-18)

@@ -3,8 +3,9 @@ use mathlib.Core.Path.{_∙_}
 use Rattle.text_output.specs.Writing.{sheet}
 use Rattle.script_lines.specs.Values.{bytesAt}
 use Rattle.script_answers.specs.Dump.{tableLines}
+use Rattle.script_sets.specs.Texts.{setsLine}
 use Rattle.script.specs.Running.{Session, session, tableIn, called}
-use Rattle.script.proofs.RunLaws.{ended, obeys-size, obeys-none, obeys-table, obeys-call}
+use Rattle.script.proofs.RunLaws.{ended, obeys-size, obeys-none, obeys-table, obeys-sets, obeys-call}
 use borrow.Author.Needs.{needs}
 use Rattle.script.proofs.runner.Machine.obeyed.Statement.{statement}
 use Rattle.script.proofs.runner.Machine.obeyed.Tie as tie
@@ -31,16 +32,22 @@ dumping c = c .before .before
 abbrev with-table : tie.Else3 → tie.Else1
 with-table c = c .before .before
 
-abbrev is-call : tie.After-called → tie.Else3
+abbrev is-sets : tie.After-parsed → tie.Then4
+is-sets c = c .before .before
+
+abbrev parsing : tie.After-slice-known9 → tie.After-parsed
+parsing c = c .before .before
+
+abbrev is-call : tie.After-called → tie.Else4
 is-call c = c .before .before .before .before .before .before .before
 
-abbrev calling : tie.After-slice-known14 → tie.After-called
+abbrev calling : tie.After-slice-known15 → tie.After-called
 calling c = c .before .before .before .before .before .before .before .before .before .before .before .before
 
 abbrev no-table : tie.After-wrong → tie.Else2
 no-table c = c .before .before
 
-abbrev refused : tie.After-slice-known15 → tie.After-wrong
+abbrev refused : tie.After-slice-known16 → tie.After-wrong
 refused c = c .before .before
 
 -- all that came in
@@ -54,7 +61,7 @@ abbrev left : tie.After-called → Session
 left c =
     let d = c .called in
     session (d .result .machine) (d .last .1 .0) (d .last .1 .1 .0) (d .last .1 .1 .1 .0) (d .last .1 .1 .1 .1 .0) (d .last .1 .1 .1 .1 .1 .0)
-    (start (with-table (is-call c) .before) .args .line .now) (sheet (d .last .1 .1 .1 .1 .1 .1 .1 .0) (d .result .at))
+    (start (with-table (is-call c .before) .before) .args .line .now) (sheet (d .last .1 .1 .1 .1 .1 .1 .1 .0) (d .result .at))
 
 returns : tie.Need-returns
 returns c =
@@ -71,15 +78,27 @@ returns-2 c =
 
 returns-3 : tie.Need-returns-3
 returns-3 c =
-    let is = is-call (calling c) in
-    let no = with-table is in
+    let is = is-sets (parsing c) in
+    let other = is .before in
+    let no = with-table other in
     let a = start (no .before) .args in
-    let bytes = bytesAt (a .t10) (a .line .now) in
-    _∙_ {a = left (calling c)} {b = called (a .t10 .letter) (a .t10 .values) bytes (came (no .before))} (calling c .called .ensures)
-    (obeys-call (a .t10 .letter) (a .t10 .values) bytes (came (no .before)) (no .if1 .left) (is .before .if2 .taken) (is .if3 .left))
+    let bytes = bytesAt (a .t10) (a .line .now) 0 in
+    ended (a .self) _ _ _ _ _ _ _ (setsLine (a .self .trace) (a .self .state) bytes) _ _ _ _ (parsing c .parsed .ensures)
+    ∙ obeys-sets _ _ _ (came (no .before)) (no .if1 .left) (other .before .if2 .taken) (other .if3 .left) (is .if4 .taken)
 
 returns-4 : tie.Need-returns-4
 returns-4 c =
+    let is = is-call (calling c) in
+    let other = is .before in
+    let no = with-table other in
+    let a = start (no .before) .args in
+    let bytes = bytesAt (a .t10) (a .line .now) in
+    _∙_ {a = left (calling c)} {b = called (a .t10 .letter) (a .t10 .values) bytes (came (no .before))} (calling c .called .ensures)
+    (obeys-call (a .t10 .letter) (a .t10 .values) bytes (came (no .before)) (no .if1 .left) (other .before .if2 .taken) (other .if3 .left)
+    (is .if4 .left))
+
+returns-5 : tie.Need-returns-5
+returns-5 c =
     let is = no-table (refused c) in
     let no = is .before in
     ended (start (no .before) .args .self) _ _ _ _ _ _ _ _ _ _ _ _ (refused c .wrong .ensures)
@@ -102,12 +121,15 @@ obeyed-spec =
     returns-2
     (λ c κs. search needs)
     (λ c. search needs)
-    (λ c. search needs)
-    (λ c. search needs)
-    (λ c. search needs)
-    (λ c. search needs)
-    (λ c. search needs)
     returns-3
     (λ c κs. search needs)
     (λ c. search needs)
-    returns-4)
+    (λ c. search needs)
+    (λ c. search needs)
+    (λ c. search needs)
+    (λ c. search needs)
+    (λ c. search needs)
+    returns-4
+    (λ c κs. search needs)
+    (λ c. search needs)
+    returns-5)
