@@ -118,6 +118,163 @@ static void images(void) {
     EXPECT(scenes_table_load_image(&table, image, saved.len).status == SCENES_BAD_IMAGE);
 }
 
+/* Cluster 6 with attributes 1 and 2. */
+static const uint8_t two_pairs[] = {0x15, 0x24, 0x00, 0x06, 0x36, 0x01, 0x15, 0x24, 0x00, 0x01,
+                                    0x18, 0x15, 0x24, 0x00, 0x02, 0x18, 0x18, 0x18, 0x18};
+
+/* Cluster 0x12345678 without attributes, then cluster 0x9ABCDEF0 with attribute 0xFEDCBA98. */
+static const uint8_t wide[] = {0x15, 0x26, 0x00, 0x78, 0x56, 0x34, 0x12, 0x36, 0x01, 0x18, 0x18, 0x15, 0x26, 0x00, 0xF0, 0xDE,
+                               0xBC, 0x9A, 0x36, 0x01, 0x15, 0x26, 0x00, 0x98, 0xBA, 0xDC, 0xFE, 0x18, 0x18, 0x18, 0x18};
+
+static bool yields(struct scenes_field_item item, uint8_t kind, uint32_t number, size_t pair, size_t left, size_t set) {
+    return item.kind == kind && item.number == number && item.cursor.pair == pair && item.cursor.left == left && item.cursor.set == set;
+}
+
+/* Each kind of item, with the cursor to go on with. */
+static void items(void) {
+    struct scenes_field_item item = scenes_fields_first(two_pairs, sizeof two_pairs);
+    EXPECT(yields(item, SCENES_ITEM_CLUSTER, 6, 6, 2, 18));
+    item = scenes_fields_next(two_pairs, sizeof two_pairs, item);
+    EXPECT(yields(item, SCENES_ITEM_ATTRIBUTE, 1, 11, 1, 18));
+    item = scenes_fields_next(two_pairs, sizeof two_pairs, item);
+    EXPECT(yields(item, SCENES_ITEM_ATTRIBUTE, 2, 16, 0, 18));
+    /* one byte less, the closing one; one more behind it; and the bytes as they are */
+    EXPECT(yields(scenes_fields_next(two_pairs, sizeof two_pairs - 1, item), SCENES_ITEM_REFUSED, 0, 16, 0, 18));
+    static const uint8_t behind[] = {0x18, 0x18};
+    EXPECT(yields(scenes_fields_first(behind, 2), SCENES_ITEM_REFUSED, 0, 0, 0, 0));
+    item = scenes_fields_next(two_pairs, sizeof two_pairs, item);
+    EXPECT(yields(item, SCENES_ITEM_DONE, 0, 16, 0, 18));
+    EXPECT(yields(scenes_fields_next(two_pairs, sizeof two_pairs, item), SCENES_ITEM_DONE, 0, 16, 0, 18));
+    /* a set without attributes; numbers of 32 bits */
+    item = scenes_fields_first(wide, sizeof wide);
+    EXPECT(yields(item, SCENES_ITEM_CLUSTER, 0x12345678, 9, 0, 11));
+    item = scenes_fields_next(wide, sizeof wide, item);
+    EXPECT(yields(item, SCENES_ITEM_CLUSTER, 0x9ABCDEF0, 20, 1, 30));
+    item = scenes_fields_next(wide, sizeof wide, item);
+    EXPECT(yields(item, SCENES_ITEM_ATTRIBUTE, 0xFEDCBA98, 28, 0, 30));
+    EXPECT(yields(scenes_fields_next(wide, sizeof wide, item), SCENES_ITEM_DONE, 0, 28, 0, 30));
+    /* no bytes, and no sets */
+    EXPECT(yields(scenes_fields_first(NULL, 0), SCENES_ITEM_DONE, 0, 0, 0, 0));
+    EXPECT(yields(scenes_fields_first(behind, 1), SCENES_ITEM_DONE, 0, 0, 0, 0));
+    /* any cursor */
+    struct scenes_cursor cursor = {SIZE_MAX - 1, SIZE_MAX, SIZE_MAX - 2};
+    EXPECT(yields(scenes_next_item(wide, sizeof wide, cursor), SCENES_ITEM_REFUSED, 0, SIZE_MAX - 1, SIZE_MAX, SIZE_MAX - 2));
+    cursor.left = 0;
+    EXPECT(yields(scenes_next_item(wide, sizeof wide, cursor), SCENES_ITEM_REFUSED, 0, SIZE_MAX - 1, 0, SIZE_MAX - 2));
+    cursor.pair = 20;
+    cursor.left = SIZE_MAX;
+    EXPECT(yields(scenes_next_item(wide, sizeof wide, cursor), SCENES_ITEM_ATTRIBUTE, 0xFEDCBA98, 28, SIZE_MAX - 1, SIZE_MAX - 2));
+}
+
+static void pair_lists(void) {
+    uint64_t pairs[SCENES_PAIRS_MAX(sizeof two_pairs)] = {0xDD, 0xEE, 0xFF};
+    EXPECT(sizeof pairs / sizeof *pairs == 3 && SCENES_PAIRS_MAX(SCENES_MAX_FIELDS) == 25);
+    struct scenes_pairs_read read = scenes_fields_list_pairs(two_pairs, sizeof two_pairs - 1, pairs, 1);
+    EXPECT(read.status == SCENES_BAD_FIELD_SETS && read.len == 0);
+    read = scenes_fields_list_pairs(two_pairs, sizeof two_pairs, pairs, 1);
+    EXPECT(read.status == SCENES_BUFFER_TOO_SHORT && read.len == 0);
+    EXPECT(pairs[0] == 0xDD && pairs[1] == 0xEE && pairs[2] == 0xFF);
+    read = scenes_fields_list_pairs(two_pairs, sizeof two_pairs, pairs, 3);
+    EXPECT(read.status == SCENES_SUCCESS && read.len == 2 && pairs[0] == 0x600000001 && pairs[1] == 0x600000002 && pairs[2] == 0xFF);
+    EXPECT(SCENES_PAIR_CLUSTER(pairs[1]) == 6 && SCENES_PAIR_ATTRIBUTE(pairs[1]) == 2);
+    read = scenes_fields_list_pairs(wide, sizeof wide, pairs, 1);
+    EXPECT(read.status == SCENES_SUCCESS && read.len == 1 && pairs[0] == 0x9ABCDEF0FEDCBA98 && pairs[1] == 0x600000002);
+    EXPECT(SCENES_PAIR_CLUSTER(pairs[0]) == 0x9ABCDEF0 && SCENES_PAIR_ATTRIBUTE(pairs[0]) == 0xFEDCBA98);
+    EXPECT(scenes_fields_list_pairs(two_pairs, sizeof two_pairs, NULL, 0).status == SCENES_BUFFER_TOO_SHORT);
+    read = scenes_fields_list_pairs(NULL, 0, NULL, 0);
+    EXPECT(read.status == SCENES_SUCCESS && read.len == 0);
+}
+
+/* What a host says of a pair: it has cluster 6 with attributes 1 and 2, of which 2 is not scenable. */
+static uint8_t pair_byte(uint32_t cluster, uint32_t attribute) {
+    if (cluster != 6)
+        return SCENES_PAIR_CLUSTER_UNKNOWN;
+    return attribute == 1 ? SCENES_PAIR_SCENABLE : SCENES_PAIR_NOT_SCENABLE;
+}
+
+enum { MESSAGE = 256 };
+
+/* An add by raw field bytes, as docs/INTERFACE.md has it. */
+static struct scenes_outcome add_raw(struct scenes_table *t, struct scenes_key key, uint32_t time, uint8_t member,
+                                     const uint8_t *bytes, size_t len) {
+    uint8_t pairs[SCENES_PAIRS_MAX(MESSAGE)];
+    size_t count = 0;
+    uint32_t cluster = 0;
+    struct scenes_field_item item = scenes_fields_first(bytes, len);
+    for (; item.kind == SCENES_ITEM_CLUSTER || item.kind == SCENES_ITEM_ATTRIBUTE; item = scenes_fields_next(bytes, len, item))
+        if (item.kind == SCENES_ITEM_CLUSTER)
+            cluster = item.number;
+        else
+            pairs[count++] = pair_byte(cluster, item.number);
+    return scenes_table_add_read(t, key, time, member, pairs, count, bytes, len);
+}
+
+/* A list of `len` field bytes, 17 to 272 of them: cluster 6 with attribute 1, and a member that is skipped, of as many bytes as are left. */
+static void long_list(uint8_t *bytes, size_t len) {
+    static const uint8_t front[] = {0x15, 0x24, 0x00, 0x06, 0x36, 0x01, 0x15, 0x24, 0x00, 0x01, 0x18, 0x18, 0x30, 0x02};
+    memset(bytes, 0xEE, len);
+    memcpy(bytes, front, sizeof front);
+    bytes[sizeof front] = (uint8_t)(len - sizeof front - 3);
+    bytes[len - 2] = bytes[len - 1] = 0x18;
+}
+
+/* Adds by raw field bytes that are refused, each by the first of its mistakes, and change nothing. */
+static void refused_reads(void) {
+    static const uint8_t good[] = {1, 2, 1}, not_scenable[] = {0, 9, 1}, bad[] = {1, 9, 0};
+    static uint8_t fields_before[sizeof fields];
+    uint8_t long_fields[SCENES_MAX_FIELDS + 1];
+    long_list(long_fields, sizeof long_fields);
+    struct scenes_key no_fabric = first, no_scene = first;
+    no_fabric.fabric = no_scene.scene = 0;
+    struct scenes_state before = table.state;
+    memcpy(fields_before, fields, sizeof fields);
+    const size_t len = sizeof two_pairs;
+    table.state.entries = N + 1;
+    EXPECT(scenes_table_add_read(&table, no_fabric, 0, NO, good, 2, two_pairs, len - 1).status == SCENES_UNSOUND);
+    table.state = before;
+    EXPECT(scenes_table_add_read(&table, no_fabric, SCENES_MAX_TIME + 1, NO, good, 2, two_pairs, len - 1).status == SCENES_NO_FABRIC);
+    EXPECT(scenes_table_add_read(&table, no_scene, 0, NO, good, 2, two_pairs, len - 1).status == SCENES_CONSTRAINT_ERROR);
+    EXPECT(scenes_table_add_read(&table, first, SCENES_MAX_TIME + 1, NO, good, 2, two_pairs, len - 1).status == SCENES_CONSTRAINT_ERROR);
+    EXPECT(scenes_table_add_read(&table, first, 0, NO, good, 2, two_pairs, len - 1).status == SCENES_INVALID_COMMAND);
+    EXPECT(scenes_table_add_read(&table, first, 0, SCENES_MEMBER_FAILED, good, 2, two_pairs, len - 1).status == SCENES_MEMBERSHIP_FAILED);
+    /* no list of sets, fewer pair bytes, more of them: before what the pair bytes say, and before the length */
+    EXPECT(scenes_table_add_read(&table, first, 0, YES, not_scenable, 2, two_pairs, len - 1).status == SCENES_BAD_FIELD_SETS);
+    EXPECT(scenes_table_add_read(&table, first, 0, YES, not_scenable, 1, two_pairs, len).status == SCENES_BAD_FIELD_SETS);
+    EXPECT(scenes_table_add_read(&table, first, 0, YES, bad, 3, two_pairs, len).status == SCENES_BAD_FIELD_SETS);
+    EXPECT(scenes_table_add_read(&table, first, 0, YES, good, 1, fields_before, 200).status == SCENES_BAD_FIELD_SETS);
+    EXPECT(scenes_table_add_read(&table, first, 0, YES, good, 2, long_fields, sizeof long_fields).status == SCENES_BAD_FIELD_SETS);
+    EXPECT(scenes_table_add_read(&table, first, 0, YES, NULL, 0, long_fields, sizeof long_fields).status == SCENES_BAD_FIELD_SETS);
+    EXPECT(scenes_table_add_read(&table, first, 0, YES, good, 1, NULL, 0).status == SCENES_BAD_FIELD_SETS);
+    /* then the pair bytes, then the length */
+    EXPECT(scenes_table_add_read(&table, first, 0, YES, not_scenable, 2, two_pairs, len).status == SCENES_INVALID_COMMAND);
+    EXPECT(scenes_table_add_read(&table, first, 0, YES, bad, 2, two_pairs, len).status == SCENES_BAD_PAIR);
+    EXPECT(scenes_table_add_read(&table, first, 0, YES, not_scenable, 1, long_fields, sizeof long_fields).status == SCENES_INVALID_COMMAND);
+    EXPECT(scenes_table_add_read(&table, first, 0, YES, good, 1, long_fields, sizeof long_fields).status == SCENES_INSUFFICIENT_SPACE);
+    EXPECT(scenes_state_equal(table.state, before) && memcmp(fields, fields_before, sizeof fields) == 0);
+}
+
+static void adds_by_raw_fields(void) {
+    static const uint8_t good[] = {SCENES_PAIR_SCENABLE, SCENES_PAIR_CLUSTER_UNKNOWN};
+    uint8_t long_fields[SCENES_MAX_FIELDS];
+    long_list(long_fields, sizeof long_fields);
+    EXPECT(table.state.entries == 0);
+    struct scenes_outcome added = scenes_table_add_read(&table, second, 7654321, YES, good, 2, two_pairs, sizeof two_pairs);
+    EXPECT(added.status == SCENES_SUCCESS && added.save && added.state.entries == 1 && scenes_state_equal(added.state, table.state));
+    EXPECT(keys[0] == 0x3456789ABCDE && times[0] == 7654321 && fields[0] == 19 && memcmp(fields + 1, two_pairs, 19) == 0);
+    refused_reads();
+    EXPECT(add_raw(&table, second, 1, YES, two_pairs, sizeof two_pairs).status == SCENES_INVALID_COMMAND && times[0] == 7654321);
+    EXPECT(add_raw(&table, second, 1, YES, two_pairs, 5).status == SCENES_BAD_FIELD_SETS);
+    EXPECT(add_raw(&table, second, 1, YES, wide, sizeof wide - 1).status == SCENES_BAD_FIELD_SETS);
+    EXPECT(add_raw(&table, first, 1, YES, wide, sizeof wide).save && fields[SCENES_STRIDE] == 31 && keys[1] == 0x123456789ABC);
+    EXPECT(add_raw(&table, first, 2, YES, long_fields, sizeof long_fields).save && fields[SCENES_STRIDE] == SCENES_MAX_FIELDS);
+    EXPECT(add_raw(&table, first, 3, YES, NULL, 0).save && fields[SCENES_STRIDE] == 0 && times[1] == 3);
+    EXPECT(table.state.entries == 2 && scenes_table_is_sound(&table));
+    struct scenes_table full = table;
+    full.state = scenes_new(0);
+    EXPECT(scenes_table_add_read(&full, first, 0, YES, good, 2, two_pairs, sizeof two_pairs).status == SCENES_INSUFFICIENT_SPACE);
+    EXPECT(scenes_table_remove_fabric(&table, 0x12).save && scenes_table_remove(&table, second, YES).save && table.state.entries == 0);
+}
+
 static void lifecycle(void) {
     struct scenes_state before = table.state;
     EXPECT(scenes_table_fail_safe_commit(&table).status == SCENES_SUCCESS && scenes_table_fail_safe_expiry(&table).status == SCENES_SUCCESS);
@@ -148,7 +305,7 @@ static void texts(void) {
     int named = 0;
     for (int status = 0; status <= UINT8_MAX; status++)
         named += strcmp(scenes_status_text((uint8_t)status), none) != 0;
-    EXPECT(named == 15 && strcmp(scenes_status_text(SCENES_NOT_FOUND), "no such scene") == 0);
+    EXPECT(named == 16 && strcmp(scenes_status_text(SCENES_NOT_FOUND), "no such scene") == 0);
 }
 
 int main(void) {
@@ -161,6 +318,9 @@ int main(void) {
     images();
     copies_and_removals();
     nothing_handed_over();
+    items();
+    pair_lists();
+    adds_by_raw_fields();
     lifecycle();
     words();
     texts();

@@ -1,4 +1,5 @@
-/* The scene table of Scenes Management, for hosts in C: the calls of libhost.a, which `rt staticlib host` builds.
+/* The scene table of Scenes Management, for hosts in C: the calls of libhost.a, which `rt staticlib host` builds, and three on raw field
+ * bytes, of libhost_fields.a, which `rt staticlib host_fields` builds. A host that lists the pairs of its adds itself needs the first alone.
  *
  * A table is a head, which every call takes by value and hands back in its answer, and four arrays that the host owns and lends to
  * each call as a pointer and a count of elements:
@@ -18,11 +19,27 @@
  *     if (stored.save)
  *         ..
  *
+ * Raw field bytes: a host that does not list the pairs of an add by itself has them read. It goes through the field bytes item by item,
+ * answers each attribute of a cluster by one pair byte, and hands both to the add. Here no more than MESSAGE field bytes come:
+ *
+ *     uint8_t pairs[SCENES_PAIRS_MAX(MESSAGE)];
+ *     size_t count = 0;
+ *     uint32_t cluster = 0;
+ *     struct scenes_field_item item = scenes_fields_first(bytes, len);
+ *     for (; item.kind == SCENES_ITEM_CLUSTER || item.kind == SCENES_ITEM_ATTRIBUTE; item = scenes_fields_next(bytes, len, item))
+ *         if (item.kind == SCENES_ITEM_CLUSTER)
+ *             cluster = item.number;
+ *         else
+ *             pairs[count++] = pair_byte(cluster, item.number);
+ *     struct scenes_outcome added = scenes_table_add_read(&table, key, time, SCENES_MEMBER_YES, pairs, count, bytes, len);
+ *
+ * Where the bytes are no list of field sets, the reader may yield the items in front of the mistake before it says so, and the add refuses.
+ *
  * Whatever the head, the arrays and the other arguments hold, a call returns, and answers a number of the list below. What it asks of C:
  * a pointer is valid for its count and not null, even where the count is 0; no two arrays of a call overlap; nobody else touches them
- * meanwhile. A function over the table also takes NULL with count 0 for bytes that are handed to it. Keep the head that a call hands back,
- * for the next one, after a refusal too: it comes back as it was but for a whole-group copy that answers 0x89 midway, which hands back the
- * head that counts the copies it had made.
+ * meanwhile. A function over the table or over field bytes also takes NULL with count 0 for what is handed to it. Keep the head that a call
+ * hands back, for the next one, after a refusal too: it comes back as it was but for a whole-group copy that answers 0x89 midway, which hands
+ * back the head that counts the copies it had made.
  *
  * Answers of 0 and 1 are `bool`; arguments that are yes or no are bytes, in which every number means something. Structs have padding, whose
  * bytes mean nothing: compare their members, never the structs by memcmp (scenes_state_equal is for heads).
@@ -37,7 +54,7 @@
 
 /* What this header was written for: it steps whenever a struct, an answer or a call of the header changes. A host that may meet another
  * library compares it with scenes_version() before any other call. Version 1 had none to ask for. */
-#define SCENES_VERSION 3
+#define SCENES_VERSION 4
 
 /* An answer that is dropped is warned of, since the head is in it. Pointers are not null, and no two of a call's arrays overlap. */
 #if (defined(__cplusplus) && __cplusplus >= 201703L) || (defined(__STDC_VERSION__) && __STDC_VERSION__ >= 202311L)
@@ -83,15 +100,17 @@ extern "C" {
 #define SCENES_SINGLE_ELEMENT 5    /* info asked for one list element */
 #define SCENES_UNSOUND 6           /* the head or the lent arrays are not those of a table */
 #define SCENES_BAD_PAIR 7          /* a pair byte above 2 */
-#define SCENES_BUFFER_TOO_SHORT 8  /* the buffer is shorter than the scene list, or than the image */
+#define SCENES_BUFFER_TOO_SHORT 8  /* the buffer is shorter than the scene list, than the image or than the list of pairs */
 #define SCENES_BAD_IMAGE 9         /* an image that is none, or one of a larger table */
 #define SCENES_CLASHING_IMAGE 10   /* an image with a key twice, with two records of a fabric, or with scene 0 or 255 */
+#define SCENES_BAD_FIELD_SETS 11   /* field bytes that are no list of field sets, or another number of pairs than of pair bytes */
 
 #define SCENES_MAX_SCENES 1024    /* the largest N */
 #define SCENES_MAX_FIELDS 128     /* the most field bytes of a scene */
 #define SCENES_STRIDE 129         /* bytes of `fields` for each scene */
 #define SCENES_MAX_TIME 60000000u /* the longest transition time */
 #define SCENES_IMAGE_MAX(n) ((size_t)171 * (n) + 8) /* no image of a table of n places has more bytes */
+#define SCENES_PAIRS_MAX(n) ((size_t)(n) / 5)       /* no n field bytes hold more pairs: each takes five bytes at least */
 #define SCENES_NO_POSITION 1024   /* the position that a refused view or lookup answers: no table has an entry there */
 
 /* Membership: whether the fabric's endpoint is in the group. Group 0 needs no answer. Numbers above 1 all say that the host could not tell. */
@@ -103,6 +122,16 @@ extern "C" {
 #define SCENES_PAIR_NOT_SCENABLE 0
 #define SCENES_PAIR_SCENABLE 1
 #define SCENES_PAIR_CLUSTER_UNKNOWN 2
+
+/* What the reader of field bytes yields: the end, a cluster, an attribute of the last cluster, or that the bytes are no list of sets. */
+#define SCENES_ITEM_DONE 0
+#define SCENES_ITEM_CLUSTER 1
+#define SCENES_ITEM_ATTRIBUTE 2
+#define SCENES_ITEM_REFUSED 3
+
+/* A word of the list of pairs: the cluster in the bits from 32 on, the attribute in those below. */
+#define SCENES_PAIR_CLUSTER(word) ((uint32_t)((uint64_t)(word) >> 32))
+#define SCENES_PAIR_ATTRIBUTE(word) ((uint32_t)((uint64_t)(word) & 0xFFFFFFFFu))
 
 /* `applied` of a recall: 1 is yes, any other number is no. */
 #define SCENES_APPLIED_NO 0
@@ -209,6 +238,28 @@ struct scenes_image_saved {
     size_t len;
 };
 
+/* Where the reader of field bytes stands: `left` attributes of the last cluster are to come, the next at byte `pair`, and behind them the
+ * next set at byte `set`. All zeros are the start. */
+struct scenes_cursor {
+    size_t pair;
+    size_t left;
+    size_t set;
+};
+
+/* What the reader yields, the number of the cluster or the attribute, and the cursor to go on with, whose `left` behind a cluster is how many
+ * attributes the cluster has. The end and a refusal have number 0 and the cursor that they were asked with. */
+struct scenes_field_item {
+    uint8_t kind;
+    uint32_t number;
+    struct scenes_cursor cursor;
+};
+
+/* How many words of the buffer are pairs. A refused list has 0, and the buffer is as it was. */
+struct scenes_pairs_read {
+    uint8_t status;
+    size_t len;
+};
+
 /* Where field bytes lie: `len` bytes from `fields + offset` on, all of them within the lent count. None are 0 and 0. */
 struct scenes_field_place {
     size_t offset;
@@ -248,8 +299,13 @@ SCENES_ASSERT(info_read, sizeof(struct scenes_info_read) == 48 && offsetof(struc
 SCENES_ASSERT(image_saved, sizeof(struct scenes_image_saved) == 48 && offsetof(struct scenes_image_saved, status) == 32 &&
                                offsetof(struct scenes_image_saved, len) == 40);
 SCENES_ASSERT(field_place, sizeof(struct scenes_field_place) == 16 && offsetof(struct scenes_field_place, len) == 8);
+SCENES_ASSERT(cursor, sizeof(struct scenes_cursor) == 24 && offsetof(struct scenes_cursor, left) == 8 &&
+                          offsetof(struct scenes_cursor, set) == 16);
+SCENES_ASSERT(field_item, sizeof(struct scenes_field_item) == 32 && offsetof(struct scenes_field_item, number) == 4 &&
+                              offsetof(struct scenes_field_item, cursor) == 8);
+SCENES_ASSERT(pairs_read, sizeof(struct scenes_pairs_read) == 16 && offsetof(struct scenes_pairs_read, len) == 8);
 
-/* ---- The calls of the library */
+/* ---- The calls of libhost.a */
 
 /* Each takes the head first. The lent arrays: to be read only, to be written, and with only the records to be written. */
 #define SCENES_ENTRIES(access)                                                                                                 \
@@ -335,6 +391,27 @@ SCENES_KEEP struct scenes_outcome scenes_startup(SCENES_READ) SCENES_NONNULL;
 SCENES_KEEP struct scenes_outcome scenes_fail_safe_commit(SCENES_READ) SCENES_NONNULL;
 SCENES_KEEP struct scenes_outcome scenes_fail_safe_expiry(SCENES_READ) SCENES_NONNULL;
 
+/* ---- The calls of libhost_fields.a, on raw field bytes
+ *
+ * The bytes are to be a list of extension field sets up to its closing 0x18, which is the last byte; no bytes at all hold no sets. A set is
+ * an anonymous structure with its cluster number under context tag 0 and its array of pairs under tag 1; a pair is one with its attribute
+ * number under tag 0. Each of these tags stands once, in any order; the numbers are unsigned below 2^32. Other members are skipped, with
+ * containers to a depth of 16: a member that is one has depth 1. */
+
+/* The cluster or the attribute at a cursor. Whatever the cursor holds, it is answered. */
+SCENES_KEEP struct scenes_field_item scenes_next_item(const uint8_t *SCENES_RESTRICT bytes, size_t bytes_len,
+                                                      struct scenes_cursor cursor) SCENES_NONNULL;
+
+/* Writes a word for each pair, in order, into the front of `pairs`: SCENES_PAIRS_MAX(bytes_len) words are always enough. Answers 11, 8, 0. */
+SCENES_KEEP struct scenes_pairs_read scenes_list_pairs(const uint8_t *SCENES_RESTRICT bytes, size_t bytes_len,
+                                                       uint64_t *SCENES_RESTRICT pairs, size_t pairs_len) SCENES_NONNULL;
+
+/* Adds a scene as scenes_add does, and reads its pairs out of `ext`: `pairs` has one pair byte for each of them, in order.
+ * Answers 6, 1, 0x87, 2 or 0x85, 11, 0x85 or 7 (pairs), 0x89, 0. */
+SCENES_KEEP struct scenes_outcome scenes_add_read(SCENES_WRITE, struct scenes_key key, uint32_t time, uint8_t member,
+                                                  const uint8_t *SCENES_RESTRICT pairs, size_t pairs_len,
+                                                  const uint8_t *SCENES_RESTRICT ext, size_t ext_len) SCENES_NONNULL;
+
 /* ---- Words, statuses, heads */
 
 static inline uint64_t scenes_key_word(struct scenes_key key) {
@@ -374,6 +451,7 @@ static inline const char *scenes_status_text(uint8_t status) {
     case SCENES_BUFFER_TOO_SHORT: return "the buffer is too short";
     case SCENES_BAD_IMAGE: return "no image of a table of this size";
     case SCENES_CLASHING_IMAGE: return "an image that contradicts itself";
+    case SCENES_BAD_FIELD_SETS: return "no field sets, or not a pair byte for each pair";
     case SCENES_INVALID_COMMAND: return "not in the group, or not scenable";
     case SCENES_CONSTRAINT_ERROR: return "a scene id or a time out of range";
     case SCENES_INSUFFICIENT_SPACE: return "no room";
@@ -387,15 +465,34 @@ static inline bool scenes_state_equal(struct scenes_state a, struct scenes_state
     return a.size == b.size && a.entries == b.entries && a.recorded == b.recorded && a.dataver == b.dataver;
 }
 
-/* ---- The calls over a table that holds its head: each is the call of its name above, and keeps the head that comes back */
-
-#define SCENES_LENT(t)                                                                                                         \
-    (t)->state, (t)->keys, (t)->places, (t)->times, (t)->places, (t)->fields, (t)->places *SCENES_STRIDE, (t)->records, (t)->places
-
 /* Bytes that may be NULL where there are none. */
 static inline const uint8_t *scenes_bytes_or_none(const uint8_t *bytes, size_t len) {
     return len == 0 ? (const uint8_t *)"" : bytes;
 }
+
+/* ---- Field bytes, item by item or as a list of pairs: NULL with count 0 will do for the bytes, and for the list */
+
+/* The first item. */
+SCENES_KEEP static inline struct scenes_field_item scenes_fields_first(const uint8_t *bytes, size_t len) {
+    struct scenes_cursor start = {0, 0, 0};
+    return scenes_next_item(scenes_bytes_or_none(bytes, len), len, start);
+}
+
+/* The item behind one: behind the end, and behind a refusal, the same again. */
+SCENES_KEEP static inline struct scenes_field_item scenes_fields_next(const uint8_t *bytes, size_t len, struct scenes_field_item item) {
+    return scenes_next_item(scenes_bytes_or_none(bytes, len), len, item.cursor);
+}
+
+SCENES_KEEP static inline struct scenes_pairs_read scenes_fields_list_pairs(const uint8_t *bytes, size_t len, uint64_t *pairs,
+                                                                            size_t pairs_len) {
+    uint64_t none = 0;
+    return scenes_list_pairs(scenes_bytes_or_none(bytes, len), len, pairs_len == 0 ? &none : pairs, pairs_len);
+}
+
+/* ---- The calls over a table that holds its head: each is the call of its name above, and keeps the head that comes back */
+
+#define SCENES_LENT(t)                                                                                                         \
+    (t)->state, (t)->keys, (t)->places, (t)->times, (t)->places, (t)->fields, (t)->places *SCENES_STRIDE, (t)->records, (t)->places
 
 static inline struct scenes_outcome scenes_table_keep(struct scenes_table *table, struct scenes_outcome outcome) {
     table->state = outcome.state;
@@ -424,6 +521,13 @@ SCENES_KEEP static inline struct scenes_outcome scenes_table_add(struct scenes_t
                                                                  const uint8_t *ext, size_t ext_len) {
     return scenes_table_keep(t, scenes_add(SCENES_LENT(t), key, time, member, scenes_bytes_or_none(pairs, pairs_len), pairs_len,
                                            scenes_bytes_or_none(ext, ext_len), ext_len));
+}
+
+SCENES_KEEP static inline struct scenes_outcome scenes_table_add_read(struct scenes_table *t, struct scenes_key key, uint32_t time,
+                                                                      uint8_t member, const uint8_t *pairs, size_t pairs_len,
+                                                                      const uint8_t *ext, size_t ext_len) {
+    return scenes_table_keep(t, scenes_add_read(SCENES_LENT(t), key, time, member, scenes_bytes_or_none(pairs, pairs_len), pairs_len,
+                                                scenes_bytes_or_none(ext, ext_len), ext_len));
 }
 
 SCENES_KEEP static inline struct scenes_outcome scenes_table_store(struct scenes_table *t, struct scenes_key key, uint8_t member,

@@ -1,10 +1,13 @@
 //! Measures the exported calls against the published scenes.rs, one driver for both, and writes a table in Markdown. `host/bench` builds
-//! it, with the published file and the oracle's stand-ins beside it.
+//! it, with the published file and the oracle's stand-ins beside it: once as it is, and once with `--cfg raw`, which has other rows.
 #[macro_use]
 mod quiet;
 
 mod counter;
 mod dm;
+#[cfg_attr(not(raw), path = "calls.rs")]
+#[cfg_attr(raw, path = "raw.rs")]
+mod driver;
 #[allow(dead_code)]
 #[path = "../rust/src/ffi.rs"]
 mod ffi;

@@ -1,10 +1,11 @@
 //! The exported calls, each with its soundness test. A recall is its two calls.
+use crate::driver::{self, Fields};
 use crate::ffi::{self, Lent, LentMut, Outcome, State};
 use crate::requests::{CopyRequest, GroupKey, SceneKey};
-use crate::rows::{image_max, Side, FIELDS, TIME};
+use crate::rows::{image_max, Side, FIELDS};
 
 const STRIDE: usize = 129;
-const YES: u8 = 1;
+pub const YES: u8 = 1;
 
 #[derive(Clone)]
 struct Table {
@@ -52,9 +53,9 @@ impl Ours {
 }
 
 impl Side for Ours {
-    fn add(&mut self, key: SceneKey) -> u8 {
+    fn add(&mut self, key: SceneKey, fields: Fields) -> u8 {
         let (state, lent) = self.lend();
-        let done = ffi::add(state, lent, key, TIME, YES, &[1, 1], &FIELDS);
+        let done = driver::add(state, lent, key, fields);
         self.done(done)
     }
     fn store(&mut self, key: SceneKey) -> u8 {

@@ -1,5 +1,5 @@
 //! The handlers of the published scenes.rs. But for the rows of saves and loads a save writes nothing; the host always says yes, and requests
-//! and responses have no TLV.
+//! and responses have no TLV, but for raw field bytes.
 use std::future::Future;
 use std::marker::PhantomData;
 use std::num::NonZeroU8;
@@ -11,6 +11,7 @@ use crate::dm::{
     ArrayAttributeRead, AttrDetails, AttrId, ClusterId, CmdDetails, Dataver, EndptId, GroupMembership, HandlerContext,
     InvokeContext, LifecycleOp, ReadContext,
 };
+use crate::driver::{self, Fields};
 use crate::error::{Error, ErrorCode};
 use crate::persist::{Blob, KvBlobStoreAccess, Nothing, Out, Save};
 use crate::requests::{CopyRequest, GroupKey, SceneKey};
@@ -139,8 +140,8 @@ impl<const N: usize> Published<N> {
 
 impl<const N: usize> Side for Published<N> {
     #[inline(never)]
-    fn add(&mut self, key: SceneKey) -> u8 {
-        let request = AddSceneRequest { group: key.group, scene: key.scene, time: TIME, fields: &FIELDS, pairs: 2 };
+    fn add(&mut self, key: SceneKey, fields: Fields) -> u8 {
+        let request = AddSceneRequest { group: key.group, scene: key.scene, time: TIME, sets: driver::sets(fields) };
         answered!(self, key, handle_add_scene, AddSceneResponseBuilder, request)
     }
     #[inline(never)]

@@ -1,9 +1,10 @@
 //! Fills the tables, measures every row, and prints Markdown.
 use crate::counter::{Caller, Counts};
+use crate::driver::{rows, ABOUT, TITLE};
 use crate::ours::Ours;
 use crate::picture::{self, Panel};
 use crate::published::Published;
-use crate::rows::{fill, rows, Plan, Row, Side};
+use crate::rows::{fill, Plan, Row, Side};
 use crate::timer::Timer;
 
 /// What a call of either side costs, without what a call costs that does nothing.
@@ -12,22 +13,6 @@ pub trait Meter {
     const PASSES: usize;
     fn pair<A: Side, B: Side>(&mut self, a: &mut A, b: &mut B, plan: Plan, ra: &Row<A>, rb: &Row<B>) -> (f64, f64);
 }
-
-const ABOUT: &str = "
-Each cell has ours, the Rust's, and their ratio: below 1 ours is faster. A number in brackets behind a row's name is a refusal, which both
-answer. A time is the median of 4,025 single calls, of a save or a load of 125, less that of a call that does nothing, in the least disturbed
-of 15 passes; the sides take turns. The table is in the cache.
-
-Ours: the call as a host makes it through the static library, with the test that the whole table is sound. A recall is two calls; a view
-hands over position and length of the fields, which are then copied. The Rust: the handler of the published scenes.rs, compiled with the driver,
-without a soundness test. Neither side has TLV but in a save and a load, and for the walk of a recalled scene's fields, which ends at once here.
-Left out of the other calls on both sides: saving (the Rust's storage writes nothing), the host's answers (always yes), applying.
-
-A save writes the image into a buffer of 171 N + 8 bytes, a load takes it from there into a table that holds the same. The Rust's are the
-handler's own save and startup over a storage that is such a buffer.
-
-A table has four fabrics with four groups each on one endpoint, a current scene for each fabric, and 16 field bytes in each scene. On an
-empty table an overwrite, a store and the views find nothing.";
 
 const SIZES: [usize; 4] = [16, 64, 256, 1024];
 
@@ -88,6 +73,9 @@ fn sized(size: usize, filling: &Filling, meter: &mut impl Meter) -> Vec<Cell> {
 }
 
 fn print(filling: &Filling, columns: &[Vec<Cell>]) {
+    if columns[0].is_empty() {
+        return;
+    }
     println!("\n### {}\n", filling.title);
     println!("| call | N 16: ours, Rust, ratio | N 64 | N 256 | N 1,024 | growth 16 to 1,024: ours, Rust |");
     println!("|---|---|---|---|---|---|");
@@ -151,7 +139,7 @@ pub fn main() {
     match arguments.iter().map(String::as_str).collect::<Vec<_>>()[..] {
         ["times", picture] => {
             let mut timer = Timer::new();
-            println!("# Ours and the published Rust\n");
+            println!("# {TITLE}\n");
             println!("Measured on {}; a time stamp tick is {:.3} ns.", machine(), timer.tick);
             println!("{ABOUT}\n\n## Nanoseconds of a call");
             let cells = tables(&mut timer);

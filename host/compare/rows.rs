@@ -1,4 +1,5 @@
-//! What is measured: the tables and the calls, the same for both sides.
+//! What is measured: the tables and how a call is described, the same for both sides.
+use crate::driver::{Fields, FILL};
 use crate::requests::{CopyRequest, GroupKey, GroupScene, SceneKey};
 
 pub const TIME: u32 = 1000;
@@ -16,7 +17,7 @@ pub const fn image_max(places: usize) -> usize {
 
 /// A table, ours or the published one. A call answers its status.
 pub trait Side {
-    fn add(&mut self, key: SceneKey) -> u8;
+    fn add(&mut self, key: SceneKey, fields: Fields) -> u8;
     fn store(&mut self, key: SceneKey) -> u8;
     fn view(&mut self, key: SceneKey) -> u8;
     /// A view, with the field bytes copied to a buffer.
@@ -69,7 +70,7 @@ pub fn fill(side: &mut impl Side, entries: usize, long: bool) {
         side.put_image(&long_image(entries));
         assert_eq!(side.load(), 0);
     } else {
-        (0..entries).for_each(|i| assert_eq!(side.add(entry(i)), 0));
+        (0..entries).for_each(|i| assert_eq!(side.add(entry(i), FILL), 0));
     }
     for i in entries.saturating_sub(4)..entries {
         assert_eq!(side.store(entry(i)), 0);
@@ -85,10 +86,10 @@ pub struct Plan {
 }
 
 impl Plan {
-    fn middle(self) -> SceneKey {
+    pub fn middle(self) -> SceneKey {
         entry(self.entries / 2)
     }
-    fn group(self) -> GroupKey {
+    pub fn group(self) -> GroupKey {
         let SceneKey { fabric, endpoint, group, .. } = self.middle();
         GroupKey { fabric, endpoint, group }
     }
@@ -96,7 +97,7 @@ impl Plan {
     pub fn absent(self) -> SceneKey {
         SceneKey { group: 9, ..self.middle() }
     }
-    fn copied(self, mode: u8) -> CopyRequest {
+    pub fn copied(self, mode: u8) -> CopyRequest {
         let SceneKey { fabric, endpoint, group, scene } = self.middle();
         CopyRequest { fabric, endpoint, mode, from: GroupScene { group, scene }, to: GroupScene { group: 9, scene } }
     }
@@ -109,30 +110,4 @@ pub struct Row<S> {
     pub writes: bool,
     /// Whether it saves or loads: its cost then depends on how long the fields are.
     pub image: bool,
-}
-
-pub fn rows<S: Side>() -> Vec<Row<S>> {
-    let row = |name, writes, call| Row { name, writes, image: false, call };
-    let image = |name, writes, call| Row { name, writes, image: true, call };
-    vec![
-        row("add, new", true, |s: &mut S, p: Plan| s.add(p.absent())),
-        row("add, overwrite", true, |s, p| s.add(p.middle())),
-        row("store", true, |s, p| s.store(p.middle())),
-        row("view, first", false, |s, _| s.view(entry(0))),
-        row("view, middle", false, |s, p| s.view(p.middle())),
-        row("view, last", false, |s, p| s.view(entry(p.entries.saturating_sub(1)))),
-        row("view, none", false, |s, p| s.view(p.absent())),
-        row("view, middle, fields copied", false, |s, p| s.view_fields(p.middle())),
-        row("remove", true, |s, p| s.remove(p.middle())),
-        row("remove all", true, |s, p| s.remove_all(p.group())),
-        row("copy, one", true, |s, p| s.copy(p.copied(0))),
-        row("copy, group", true, |s, p| s.copy(p.copied(1))),
-        row("recall", true, |s, p| s.recall(p.middle())),
-        row("membership", false, |s, p| s.membership(p.group())),
-        row("info", false, |s, p| s.info(p.group())),
-        row("notice", true, |s, _| s.notice(1)),
-        row("fabric removal", true, |s, p| s.remove_fabric(p.middle().fabric)),
-        image("save", false, |s, _| s.save()),
-        image("load", true, |s, _| s.load()),
-    ]
 }

@@ -1,9 +1,10 @@
-//! Stand-in for the code that rs-matter generates for Scenes Management, without TLV: a request is its numbers, a response keeps its
-//! status, and lists of ids go to a buffer. So both sides of the comparison take numbers and answer numbers.
+//! Stand-in for the code that rs-matter generates for Scenes Management, without TLV but for raw field bytes: a request is its numbers, a
+//! response keeps its status, and lists of ids go to a buffer. So both sides of the comparison take numbers and answer numbers.
 use core::marker::PhantomData;
 use core::sync::atomic::{AtomicU8, Ordering::Relaxed};
 
 use crate::dm::{AttrId, Cluster, ClusterId};
+use crate::driver::FieldSets;
 use crate::error::Error;
 use crate::tlv::{FromTLV, Nullable, OptionalBuilder, TLVArray, TLVBuilder, TLVBuilderParent, TLVElement, TLVTag, TLVWrite};
 
@@ -66,14 +67,12 @@ impl CopyModeBitmap {
     }
 }
 
-/// An add: its field bytes, and how many pairs they have.
-#[derive(Clone, Copy)]
+#[derive(Clone)]
 pub struct AddSceneRequest<'a> {
     pub group: u16,
     pub scene: u8,
     pub time: u32,
-    pub fields: &'a [u8],
-    pub pairs: u32,
+    pub sets: FieldSets<'a>,
 }
 
 impl<'a> AddSceneRequest<'a> {
@@ -86,16 +85,16 @@ impl<'a> AddSceneRequest<'a> {
     pub fn transition_time(&self) -> Result<u32, Error> {
         Ok(self.time)
     }
-    pub fn extension_field_set_structs(&self) -> Result<Sets<'a>, Error> {
-        Ok(Sets { fields: self.fields, pairs: self.pairs })
+    pub fn extension_field_set_structs(&self) -> Result<FieldSets<'a>, Error> {
+        Ok(self.sets.clone())
     }
 }
 
-/// One set of cluster 0 with all the pairs.
+/// Field bytes, and how many pairs they have: one set of cluster 0 with all of them.
 #[derive(Clone, Copy)]
 pub struct Sets<'a> {
-    fields: &'a [u8],
-    pairs: u32,
+    pub fields: &'a [u8],
+    pub pairs: u32,
 }
 
 impl<'a> Sets<'a> {
@@ -132,7 +131,8 @@ impl Pair {
     }
 }
 
-/// What a recall walks: published code reads it.
+/// What a recall walks, and an add by raw field bytes: published code reads it.
+#[derive(Clone)]
 pub struct ExtensionFieldSetStruct<'a>(TLVElement<'a>);
 
 impl<'a> ExtensionFieldSetStruct<'a> {
@@ -147,8 +147,20 @@ impl<'a> ExtensionFieldSetStruct<'a> {
     }
 }
 
+impl<'a> FromTLV<'a> for ExtensionFieldSetStruct<'a> {
+    fn from_tlv(element: &TLVElement<'a>) -> Result<Self, Error> {
+        Ok(Self(element.clone()))
+    }
+}
+
 #[derive(Clone)]
 pub struct AttributeValuePairStruct<'a>(TLVElement<'a>);
+
+impl AttributeValuePairStruct<'_> {
+    pub fn attribute_id(&self) -> Result<AttrId, Error> {
+        self.0.read(0)
+    }
+}
 
 impl<'a> FromTLV<'a> for AttributeValuePairStruct<'a> {
     fn from_tlv(element: &TLVElement<'a>) -> Result<Self, Error> {

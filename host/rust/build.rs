@@ -1,4 +1,5 @@
-//! Links libhost.a, which `rt staticlib host` writes: from the folder that SCENES_LIB names, else from the repository's target/staticlib.
+//! Links libhost.a and libhost_fields.a, which `rt staticlib host` and `rt staticlib host_fields` write: from the folder that SCENES_LIB
+//! names, else from the repository's target/staticlib.
 use std::env;
 use std::path::PathBuf;
 
@@ -8,7 +9,9 @@ fn main() {
         None => PathBuf::from(env::var_os("CARGO_MANIFEST_DIR").expect("cargo sets it")).join("../../target/staticlib"),
     };
     println!("cargo:rustc-link-search=native={}", folder.display());
-    println!("cargo:rustc-link-lib=static=host");
-    println!("cargo:rerun-if-changed={}", folder.join("libhost.a").display());
+    for name in ["host", "host_fields"] {
+        println!("cargo:rustc-link-lib=static={name}");
+        println!("cargo:rerun-if-changed={}", folder.join(format!("lib{name}.a")).display());
+    }
     println!("cargo:rerun-if-env-changed=SCENES_LIB");
 }

@@ -19,12 +19,14 @@ pub enum Error {
     Unsound = 6,
     /// A pair byte above 2.
     BadPair = 7,
-    /// The buffer is shorter than the scene list, or than the image.
+    /// The buffer is shorter than the scene list, than the image or than the list of pairs.
     BufferTooShort = 8,
     /// No image, or one of a larger table.
     BadImage = 9,
     /// An image with a key twice, with two records of a fabric, or with scene 0 or 255.
     ClashingImage = 10,
+    /// Field bytes that are no list of extension field sets, or another number of pairs than of pair bytes.
+    BadFieldSets = 11,
     /// Not a member of the group; an attribute that is not scenable. A status of Matter, as the three below.
     InvalidCommand = 0x85,
     /// Scene 0 or 255; a time above 60,000,000.
@@ -36,7 +38,7 @@ pub enum Error {
 }
 
 impl Error {
-    const ALL: [Error; 14] = [
+    const ALL: [Error; 15] = [
         Error::NoFabric,
         Error::MembershipFailed,
         Error::CaptureTooLong,
@@ -47,6 +49,7 @@ impl Error {
         Error::BufferTooShort,
         Error::BadImage,
         Error::ClashingImage,
+        Error::BadFieldSets,
         Error::InvalidCommand,
         Error::ConstraintError,
         Error::InsufficientSpace,
@@ -99,6 +102,7 @@ impl fmt::Display for Error {
             Error::BufferTooShort => "the buffer is too short",
             Error::BadImage => "no image of a table of this size",
             Error::ClashingImage => "an image that contradicts itself",
+            Error::BadFieldSets => "no field sets, or not a pair byte for each pair",
             Error::InvalidCommand => "not in the group, or not scenable",
             Error::ConstraintError => "a scene id or a time out of range",
             Error::InsufficientSpace => "no room",

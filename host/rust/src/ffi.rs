@@ -1,4 +1,5 @@
-//! The functions of libhost.a, declared as host/scenes.h declares them, each behind a safe function. The only unsafe code of the crate.
+//! The functions of libhost.a and libhost_fields.a, declared as host/scenes.h declares them, each behind a safe function. The only unsafe
+//! code of the crate.
 //!
 //! What the library asks of its callers across the boundary is that a pointer is valid for its count, that no two arrays overlap and that
 //! nobody else touches them meanwhile: slices and exclusive references have all that.
@@ -73,6 +74,30 @@ pub(crate) struct FieldBytes {
     pub len: usize,
 }
 
+/// Where the reader of field bytes stands: all zeros at the start.
+#[repr(C)]
+#[derive(Clone, Copy, Debug, PartialEq, Eq)]
+pub(crate) struct Cursor {
+    pub pair: usize,
+    pub left: usize,
+    pub set: usize,
+}
+
+#[repr(C)]
+#[derive(Clone, Copy, Debug, PartialEq, Eq)]
+pub(crate) struct FieldItem {
+    pub kind: u8,
+    pub number: u32,
+    pub cursor: Cursor,
+}
+
+#[repr(C)]
+#[derive(Clone, Copy)]
+pub(crate) struct PairsRead {
+    pub status: u8,
+    pub len: usize,
+}
+
 /// The lent memory, to be read.
 #[derive(Clone, Copy)]
 pub(crate) struct Lent<'a> {
@@ -93,6 +118,8 @@ pub(crate) struct LentMut<'a> {
 extern "C" {
     fn scenes_version() -> u32;
     fn scenes_new(size: usize) -> State;
+    fn scenes_next_item(bytes: *const u8, bytes_len: usize, cursor: Cursor) -> FieldItem;
+    fn scenes_list_pairs(bytes: *const u8, bytes_len: usize, pairs: *mut u64, pairs_len: usize) -> PairsRead;
 }
 
 /// The version of the library.
@@ -105,6 +132,18 @@ pub(crate) fn version() -> u32 {
 pub(crate) fn new(size: usize) -> State {
     // SAFETY: a number goes in, and any bytes are a head.
     unsafe { scenes_new(size) }
+}
+
+/// The item of field bytes at a cursor.
+pub(crate) fn next_item(bytes: &[u8], cursor: Cursor) -> FieldItem {
+    // SAFETY: the pointer and the count are a slice's, any numbers are a cursor, and any bytes are an item.
+    unsafe { scenes_next_item(bytes.as_ptr(), bytes.len(), cursor) }
+}
+
+/// The pairs of field bytes, into the front of a buffer.
+pub(crate) fn list_pairs(bytes: &[u8], pairs: &mut [u64]) -> PairsRead {
+    // SAFETY: pointers and counts are two slices', of which the one that is written is borrowed exclusively; any bytes are an answer.
+    unsafe { scenes_list_pairs(bytes.as_ptr(), bytes.len(), pairs.as_mut_ptr(), pairs.len()) }
 }
 
 // A call: the safe function, and the declared one behind the equals sign, with what is passed for each of its parameters beyond the head
@@ -163,6 +202,11 @@ calls! { Lent, as_ptr, read:
 calls! { LentMut, as_mut_ptr, write:
     fn add(key: SceneKey, time: u32, member: u8, pairs: &[u8], ext: &[u8]) -> Outcome
         = scenes_add(
+            key => SceneKey, time => u32, member => u8,
+            pairs.as_ptr() => *const u8, pairs.len() => usize, ext.as_ptr() => *const u8, ext.len() => usize
+        );
+    fn add_read(key: SceneKey, time: u32, member: u8, pairs: &[u8], ext: &[u8]) -> Outcome
+        = scenes_add_read(
             key => SceneKey, time => u32, member => u8,
             pairs.as_ptr() => *const u8, pairs.len() => usize, ext.as_ptr() => *const u8, ext.len() => usize
         );

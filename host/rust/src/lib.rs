@@ -19,6 +19,9 @@
 //! # Ok::<(), Error>(())
 //! ```
 //!
+//! A host that has raw field bytes and no list of their pairs adds by [`Scenes::add_read`], which reads the pairs out of them and asks
+//! about each; [`field_items`], [`field_pairs`] and [`list_pairs`] read them without a table.
+//!
 //! What the proofs do not reach is the boundary itself: that the declarations in this crate are those of the library. Tests hold the
 //! layouts and every argument.
 #![cfg_attr(not(test), no_std)]
@@ -26,11 +29,13 @@
 
 mod answers;
 mod ffi;
+mod fields;
 mod requests;
 mod table;
 #[cfg(test)]
 mod tests;
 
 pub use answers::{Done, Error, InfoRow, Scene, SceneList};
+pub use fields::{field_items, field_pairs, list_pairs, pair_of_word, pairs_max, FieldItem, FieldItems, FieldPairs};
 pub use requests::{pair, Applied, CopyRequest, GroupKey, GroupScene, Membership, SceneKey, Transition};
 pub use table::{image_max, library_version, Memory, Scenes, MAX_FIELDS, MAX_SCENES, MAX_TIME, STRIDE, VERSION};

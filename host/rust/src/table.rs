@@ -1,10 +1,11 @@
 //! The table: its memory, and a method for each call.
 use crate::answers::{Done, Error, InfoRow, Scene, SceneList};
 use crate::ffi::{self, Lent, LentMut, Outcome, SceneRead, State};
-use crate::requests::{Applied, CopyRequest, GroupKey, Membership, SceneKey, Transition};
+use crate::fields::{field_pairs, pairs_max};
+use crate::requests::{pair, Applied, CopyRequest, GroupKey, Membership, SceneKey, Transition};
 
 /// The version of the interface that this crate is for. It steps whenever a struct, an answer or a call of the library changes.
-pub const VERSION: u32 = 3;
+pub const VERSION: u32 = 4;
 
 /// The version of the library that was linked: [`VERSION`], unless the crate was linked with another's.
 ///
@@ -197,6 +198,75 @@ impl<const N: usize> Scenes<N> {
     pub fn add(&mut self, key: SceneKey, time: u32, member: Membership, pairs: &[u8], fields: &[u8]) -> Result<Done, Error> {
         let (state, lent) = self.lend();
         let done = ffi::add(state, lent, key, time, member.number(), pairs, fields);
+        self.done(done)
+    }
+
+    /// Adds a scene by its raw field bytes. Their pairs are read, and each is asked about, in order: `ask` is given the cluster and the
+    /// attribute, and answers a byte of [`pair`](crate::pair). Bytes that are no list of field sets are refused, and nothing is asked.
+    ///
+    /// ```
+    /// use scenes::{pair, Error, Membership, SceneKey, Scenes};
+    ///
+    /// let fields = b"\x15\x24\x00\x06\x36\x01\x15\x24\x00\x01\x18\x15\x24\x00\x02\x18\x18\x18\x18";
+    /// let scenable = |cluster, attribute| match (cluster, attribute) {
+    ///     (6, 1 | 2) => pair::SCENABLE,
+    ///     (6, _) => pair::NOT_SCENABLE,
+    ///     _ => pair::CLUSTER_UNKNOWN,
+    /// };
+    /// let mut table = Scenes::<16>::new();
+    /// let key = SceneKey { fabric: 1, endpoint: 1, group: 0, scene: 5 };
+    /// assert!(table.add_read(key, 1000, Membership::Yes, fields, scenable)?.save);
+    /// assert_eq!(table.add_read(key, 1000, Membership::Yes, &fields[..18], scenable), Err(Error::BadFieldSets));
+    /// # Ok::<(), Error>(())
+    /// ```
+    pub fn add_read(
+        &mut self,
+        key: SceneKey,
+        time: u32,
+        member: Membership,
+        fields: &[u8],
+        mut ask: impl FnMut(u32, u32) -> u8,
+    ) -> Result<Done, Error> {
+        // What is no list of field sets the library refuses, whatever the pair bytes.
+        let Ok(count) = field_pairs(fields).try_fold(0, |n: usize, pair| pair.map(|_| n + 1)) else {
+            return self.add_answered(key, time, member, &[], fields);
+        };
+        let asked = field_pairs(fields).flatten().map(|(cluster, attribute)| ask(cluster, attribute));
+        let mut bytes = [0; pairs_max(MAX_FIELDS)];
+        let Some(pairs) = bytes.get_mut(..count) else {
+            // So many pairs take more bytes than a scene has, and the add is refused. It is the add with listed pairs, of whose bytes the
+            // first that is neither 1 nor 2 decides.
+            let refused = asked.filter(|&byte| byte != pair::SCENABLE && byte != pair::CLUSTER_UNKNOWN);
+            let first = refused.reduce(|first, _| first);
+            return self.add(key, time, member, first.as_slice(), fields);
+        };
+        pairs.iter_mut().zip(asked).for_each(|(byte, answer)| *byte = answer);
+        self.add_answered(key, time, member, pairs, fields)
+    }
+
+    /// Adds a scene by its raw field bytes, as [`add_read`](Scenes::add_read) does, for a host that has asked before: `pairs` has a byte of
+    /// [`pair`](crate::pair) for each of [`field_pairs`].
+    ///
+    /// ```
+    /// use scenes::{pair, Error, Membership, SceneKey, Scenes};
+    ///
+    /// let fields = b"\x15\x24\x00\x06\x36\x01\x15\x24\x00\x01\x18\x15\x24\x00\x02\x18\x18\x18\x18";
+    /// let mut table = Scenes::<16>::new();
+    /// let key = SceneKey { fabric: 1, endpoint: 1, group: 0, scene: 5 };
+    /// assert!(table.add_answered(key, 1000, Membership::Yes, &[pair::SCENABLE; 2], fields)?.save);
+    /// assert_eq!(table.add_answered(key, 1000, Membership::Yes, &[pair::SCENABLE], fields), Err(Error::BadFieldSets));
+    /// # Ok::<(), Error>(())
+    /// ```
+    pub fn add_answered(
+        &mut self,
+        key: SceneKey,
+        time: u32,
+        member: Membership,
+        pairs: &[u8],
+        fields: &[u8],
+    ) -> Result<Done, Error> {
+        let (state, lent) = self.lend();
+        let done = ffi::add_read(state, lent, key, time, member.number(), pairs, fields);
         self.done(done)
     }
 

@@ -1,7 +1,7 @@
 //! What nothing checks across the boundary: layouts, arguments, lengths; and a table whose memory was damaged.
 // The digits of a key word are grouped by its parts.
 #![allow(clippy::unusual_byte_groupings)]
-use crate::ffi::{self, FieldBytes, ImageSaved, InfoRead, Lent, LentMut, ListRead, Outcome, SceneRead, State};
+use crate::ffi::{self, Cursor, FieldBytes, ImageSaved, InfoRead, Lent, LentMut, ListRead, Outcome, PairsRead, SceneRead, State};
 use crate::*;
 use core::mem::{offset_of, size_of};
 
@@ -28,6 +28,10 @@ fn layouts_are_those_of_the_header() {
     assert_eq!((size_of::<ImageSaved>(), offset_of!(ImageSaved, status), offset_of!(ImageSaved, len)), (48, 32, 40));
     assert_eq!(offset_of!(ImageSaved, state), 0);
     assert_eq!((size_of::<FieldBytes>(), offset_of!(FieldBytes, offset), offset_of!(FieldBytes, len)), (16, 0, 8));
+    assert_eq!((size_of::<Cursor>(), offset_of!(Cursor, pair), offset_of!(Cursor, left), offset_of!(Cursor, set)), (24, 0, 8, 16));
+    assert_eq!((size_of::<ffi::FieldItem>(), offset_of!(ffi::FieldItem, kind)), (32, 0));
+    assert_eq!((offset_of!(ffi::FieldItem, number), offset_of!(ffi::FieldItem, cursor)), (4, 8));
+    assert_eq!((size_of::<PairsRead>(), offset_of!(PairsRead, status), offset_of!(PairsRead, len)), (16, 0, 8));
 }
 
 #[test]
@@ -125,6 +129,79 @@ fn every_number_means_something() {
     }
 }
 
+// Cluster 0x12345678 without attributes, then cluster 0x9ABCDEF0 with attribute 0xFEDCBA98.
+const WIDE: &[u8] = b"\x15\x26\x00\x78\x56\x34\x12\x36\x01\x18\x18\
+    \x15\x26\x00\xF0\xDE\xBC\x9A\x36\x01\x15\x26\x00\x98\xBA\xDC\xFE\x18\x18\x18\x18";
+
+// Each kind of item, with the cursor to go on with, which has another number in each part.
+#[test]
+fn items_and_cursors_arrive_whole() {
+    let next = |bytes: &[u8], pair, left, set| {
+        let item = ffi::next_item(bytes, Cursor { pair, left, set });
+        (item.kind, item.number, item.cursor.pair, item.cursor.left, item.cursor.set)
+    };
+    assert_eq!(next(WIDE, 0, 0, 0), (1, 0x1234_5678, 9, 0, 11));
+    assert_eq!(next(WIDE, 9, 0, 11), (1, 0x9ABC_DEF0, 20, 1, 30));
+    assert_eq!(next(WIDE, 20, 1, 30), (2, 0xFEDC_BA98, 28, 0, 30));
+    assert_eq!(next(WIDE, 28, 0, 30), (0, 0, 28, 0, 30));
+    assert_eq!(next(&WIDE[..30], 28, 0, 30), (3, 0, 28, 0, 30));
+    assert_eq!(next(&[], 5, 0, 7), (0, 0, 5, 0, 7));
+    assert_eq!(next(&[], 5, 6, 7), (3, 0, 5, 6, 7));
+}
+
+// Whatever a cursor holds, there is an answer.
+#[test]
+fn every_cursor_is_answered() {
+    let parts = [0, 1, 2, 9, 11, 20, 28, 30, 31, 32, usize::MAX / 2, usize::MAX - 1, usize::MAX];
+    for pair in parts {
+        for left in parts {
+            for set in parts {
+                let cursor = Cursor { pair, left, set };
+                let item = ffi::next_item(WIDE, cursor);
+                assert!(matches!(item.kind, 1 | 2) || matches!(item.kind, 0 | 3) && (item.number, item.cursor) == (0, cursor));
+            }
+        }
+    }
+}
+
+// A set of cluster 7 with so many pairs.
+fn pairs_of_seven(count: usize) -> Vec<u8> {
+    [&b"\x15\x24\x00\x07\x36\x01"[..], &b"\x15\x24\x00\x01\x18".repeat(count), b"\x18\x18\x18"].concat()
+}
+
+// So many pairs: bytes that say scenable, then this one, then others.
+fn asking_is_as_answered(count: usize, at: usize, byte: u8, member: Membership) {
+    let key = SceneKey { fabric: 0x12, endpoint: 0x3456, group: 0x789A, scene: 0xBD };
+    let fields = pairs_of_seven(count);
+    let mut pairs = vec![1; count];
+    pairs.iter_mut().skip(at).for_each(|pair| *pair = byte);
+    pairs.iter_mut().skip(at + 1).for_each(|pair| *pair = 3 - byte.min(3));
+    let (mut answered, mut asking) = (two(), two());
+    let mut asked = 0;
+    let answer = asking.add_read(key, 5, member, &fields, |cluster, attribute| {
+        assert_eq!((cluster, attribute), (7, 1));
+        asked += 1;
+        pairs[asked - 1]
+    });
+    assert_eq!(asked, count);
+    assert_eq!(answer, answered.add_answered(key, 5, member, &pairs, &fields));
+    assert_eq!(asking, answered);
+}
+
+// The pairs that a scene has room for, and more: an add that asks is the library's add with all the pair bytes.
+#[test]
+fn an_add_that_asks_is_the_one_that_is_answered() {
+    for count in [0, 1, 2, 23, 24, 25, 26, 27, 100, 1000] {
+        for at in [0, 1, count / 2, count] {
+            for byte in [0, 1, 2, 3, 255] {
+                for member in [Membership::No, Membership::Yes, Membership::Failed] {
+                    asking_is_as_answered(count, at, byte, member);
+                }
+            }
+        }
+    }
+}
+
 // Each slice one element short of N, and each exactly N.
 #[test]
 fn lengths_arrive() {
@@ -172,6 +249,10 @@ fn a_damaged_table_is_refused_by_every_call() {
         assert!(!table.is_sound());
         assert_eq!(Scenes::from_memory(before.memory.clone()), Err(Error::Unsound));
         assert_eq!(table.add(key, 0, Membership::Failed, &[9], &[0; 200]), unsound);
+        assert_eq!(table.add_answered(key, 0, Membership::Failed, &[9], &[0; 200]), unsound);
+        assert_eq!(table.add_read(key, 0, Membership::Failed, &[0; 200], |_, _| 9), unsound);
+        assert_eq!(table.add_read(key, 0, Membership::Failed, WIDE, |_, _| 9), unsound);
+        assert_eq!(table.add_read(key, 0, Membership::Failed, &pairs_of_seven(30), |_, _| 9), unsound);
         assert_eq!(table.store(key, Membership::Failed, &[0; 200]), unsound);
         assert_eq!(table.view(key, Membership::Failed), Err(Error::Unsound));
         assert_eq!(table.recall_lookup(key, Membership::Failed, Transition::Stored), Err(Error::Unsound));
@@ -196,7 +277,7 @@ fn a_damaged_table_is_refused_by_every_call() {
 
 #[test]
 fn refusals_have_their_numbers() {
-    let numbers = [1, 2, 3, 4, 5, 6, 7, 8, 9, 10, 0x85, 0x87, 0x89, 0x8B];
+    let numbers = [1, 2, 3, 4, 5, 6, 7, 8, 9, 10, 11, 0x85, 0x87, 0x89, 0x8B];
     for number in numbers {
         assert_eq!(Error::of(number).number(), number);
     }

@@ -80,6 +80,126 @@ fn add() {
     assert_eq!(table.entries(), 4);
 }
 
+// Cluster 6 with attributes 1 and 2.
+const TWO_PAIRS: &[u8] = b"\x15\x24\x00\x06\x36\x01\x15\x24\x00\x01\x18\x15\x24\x00\x02\x18\x18\x18\x18";
+
+// A list of so many field bytes: cluster 6 with attribute 1, and a member that is skipped.
+fn long_list(len: usize) -> Vec<u8> {
+    let front = b"\x15\x24\x00\x06\x36\x01\x15\x24\x00\x01\x18\x18\x30\x02";
+    let skipped = len - front.len() - 3;
+    [&front[..], &[skipped as u8], &vec![0xEE; skipped], b"\x18\x18"].concat()
+}
+
+#[test]
+fn add_by_raw_fields() {
+    refused_keys(|t, k, m| t.add_answered(k, 0, m, &[], &[]));
+    refused_keys(|t, k, m| t.add_answered(k, 0, m, &[0], b"\x15"));
+    refused_keys(|t, k, m| t.add_read(k, 0, m, b"\x15", |_, _| pair::SCENABLE));
+    let table = &mut with::<3>(&[5]);
+    let six = key(1, 1, 6);
+    refused(table, 0x87, |t| t.add_answered(six, MAX_TIME + 1, Membership::Failed, &[], b"\x15"));
+    refused(table, 11, |t| t.add_answered(six, MAX_TIME, YES, &[0, 9], &TWO_PAIRS[..18]));
+    refused(table, 11, |t| t.add_answered(six, MAX_TIME, YES, &[0], TWO_PAIRS));
+    refused(table, 11, |t| t.add_answered(six, MAX_TIME, YES, &[0, 9, 1], TWO_PAIRS));
+    refused(table, 11, |t| t.add_answered(six, MAX_TIME, YES, &[0], &[0; 200]));
+    refused(table, 11, |t| t.add_answered(six, MAX_TIME, YES, &[], &long_list(129)));
+    refused(table, 0x85, |t| t.add_answered(six, MAX_TIME, YES, &[0, 9], TWO_PAIRS));
+    refused(table, 7, |t| t.add_answered(six, MAX_TIME, YES, &[3, 0], TWO_PAIRS));
+    refused(table, 0x85, |t| t.add_answered(six, MAX_TIME, YES, &[0], &long_list(129)));
+    refused(table, 0x89, |t| t.add_answered(six, MAX_TIME, YES, &[2], &long_list(129)));
+    refused(table, 0x89, |t| t.add_read(six, MAX_TIME, YES, &long_list(129), |_, _| pair::SCENABLE));
+    assert_eq!(table.add_answered(six, MAX_TIME, YES, &[2], &long_list(128)), SAVED);
+    assert_eq!(table.add_read(six, 1, YES, &long_list(128), |_, _| pair::CLUSTER_UNKNOWN), SAVED);
+    assert_eq!(table.view(six, YES), Ok(Scene { time: 1, at: 1, fields: &long_list(128) }));
+    assert_eq!(table.add_answered(key(1, 1, 7), 2, YES, &[1, 2], TWO_PAIRS), SAVED);
+    refused(table, 0x89, |t| t.add_answered(key(1, 1, 8), 2, YES, &[1, 2], TWO_PAIRS));
+    refused(table, 0x89, |t| t.add_read(key(1, 1, 8), 2, YES, TWO_PAIRS, |_, _| pair::SCENABLE));
+    assert_eq!(table.add_read(key(1, 1, 7), 3, YES, b"", |_, _| pair::NOT_SCENABLE), SAVED);
+    assert_eq!(table.view(key(1, 1, 7), YES), Ok(Scene { time: 3, at: 2, fields: b"" }));
+}
+
+// Each pair is asked about once, in order; none of bytes that are refused.
+#[test]
+fn an_add_asks_about_each_pair() {
+    let table = &mut with::<16>(&[]);
+    let mut asked = Vec::new();
+    let mut ask = |cluster, attribute| {
+        asked.push((cluster, attribute));
+        pair::NOT_SCENABLE
+    };
+    assert_eq!(table.add_read(key(1, 1, 5), 1, YES, TWO_PAIRS, &mut ask), Err(Error::InvalidCommand));
+    assert_eq!(table.add_read(key(1, 1, 5), 1, YES, &TWO_PAIRS[..18], &mut ask), Err(Error::BadFieldSets));
+    assert_eq!(asked, [(6, 1), (6, 2)]);
+    assert_eq!(table.entries(), 0);
+}
+
+#[test]
+fn items_and_pairs() {
+    let set = |cluster: u8, pairs: &[u8]| [&[0x15, 0x24, 0, cluster, 0x36, 1][..], pairs, &[0x18, 0x18]].concat();
+    let pair = |attribute: u8| vec![0x15, 0x24, 0, attribute, 0x18];
+    let fields = [set(8, &[]), set(6, &[pair(1), pair(1), pair(0)].concat()), set(6, &pair(2)), vec![0x18]].concat();
+    use FieldItem::{Attribute, Cluster};
+    let items = [Cluster(8), Cluster(6), Attribute(1), Attribute(1), Attribute(0), Cluster(6), Attribute(2)];
+    assert!(field_items(&fields).eq(items.map(Ok)));
+    assert!(field_pairs(&fields).eq([(6, 1), (6, 1), (6, 0), (6, 2)].map(Ok)));
+    // The sets in front of a mistake are yielded before it, and nothing comes behind it.
+    let mut cut = field_items(&fields[..fields.len() - 1]);
+    assert!(cut.by_ref().take(items.len()).eq(items.map(Ok)));
+    assert_eq!((cut.next(), cut.next(), cut.next()), (Some(Err(Error::BadFieldSets)), None, None));
+    let mut words = [0xEE; 5];
+    assert_eq!(list_pairs(&fields, &mut words[..3]), Err(Error::BufferTooShort));
+    assert_eq!(list_pairs(&fields[1..], &mut words[..3]), Err(Error::BadFieldSets));
+    assert_eq!(words, [0xEE; 5]);
+    assert_eq!(list_pairs(&fields, &mut words), Ok(&[6 << 32 | 1, 6 << 32 | 1, 6 << 32, 6 << 32 | 2][..]));
+    assert_eq!(words[4], 0xEE);
+    assert_eq!((list_pairs(b"", &mut []), list_pairs(b"\x18", &mut [])), (Ok(&[][..]), Ok(&[][..])));
+}
+
+// The bytes as items, as a list and in an add: all three read the same pairs, or refuse them.
+fn read_alike(bytes: &[u8]) -> bool {
+    let pairs: Result<Vec<_>, _> = field_pairs(bytes).collect();
+    let mut words = vec![0xEE; pairs_max(bytes.len())];
+    let listed = list_pairs(bytes, &mut words).map(|words| words.iter().map(|&word| pair_of_word(word)).collect());
+    assert_eq!(listed, pairs);
+    let (mut table, mut asked) = (Scenes::<1>::new(), Vec::new());
+    let added = table.add_read(key(1, 0, 5), 0, YES, bytes, |cluster, attribute| {
+        asked.push((cluster, attribute));
+        pair::SCENABLE
+    });
+    match pairs {
+        Ok(pairs) => {
+            assert_eq!((added, asked), (SAVED, pairs));
+            assert_eq!(table.field_bytes(0), bytes);
+            true
+        }
+        Err(error) => {
+            assert_eq!((error, added, asked), (Error::BadFieldSets, Err(error), vec![]));
+            assert_eq!(table, Scenes::new());
+            assert!(words.iter().all(|&word| word == 0xEE));
+            false
+        }
+    }
+}
+
+// Every cut of a list, every byte of it changed.
+#[test]
+fn damaged_fields_are_read_alike() {
+    let list = [&TWO_PAIRS[..16], b"\x18\x24\x02\x07\x18", TWO_PAIRS].concat();
+    assert!(read_alike(&list) && read_alike(&[]));
+    for end in 1..list.len() {
+        assert!(!read_alike(&list[..end]));
+    }
+    let mut taken = 0;
+    for at in 0..list.len() {
+        for byte in 0..=255 {
+            let mut damaged = list.clone();
+            damaged[at] = byte;
+            taken += usize::from(read_alike(&damaged));
+        }
+    }
+    assert!(taken > 256);
+}
+
 #[test]
 fn store() {
     refused_keys(|t, k, m| t.store(k, m, &[]));
