@@ -74,7 +74,7 @@ fn sets(random: &mut Random) -> Fields {
 }
 
 /// One set of a wanted length of at least 16, without the 0x18 behind it: a string fills it up.
-fn set_of(random: &mut Random, length: usize) -> Fields {
+pub fn set_of(random: &mut Random, length: usize) -> Fields {
     let fill = length - 16;
     let mut bytes = vec![STRUCTURE, 0x24, 0x00, random.byte()];
     bytes.extend(ARRAY_TAG_1);
@@ -86,7 +86,7 @@ fn set_of(random: &mut Random, length: usize) -> Fields {
     Fields { bytes, pairs: Some(1) }
 }
 
-fn closed(mut fields: Fields) -> Fields {
+pub fn closed(mut fields: Fields) -> Fields {
     fields.bytes.push(END);
     fields
 }

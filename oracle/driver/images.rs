@@ -26,7 +26,7 @@ const CONTEXT: u8 = 1;
 // ---- as the Rust writes them
 
 /// The width of a number, as a power of two.
-fn width_of(value: u64) -> u8 {
+pub fn width_of(value: u64) -> u8 {
     match value {
         0..=0xFF => 0,
         0x100..=0xFFFF => 1,
@@ -39,7 +39,7 @@ fn put_width(out: &mut Vec<u8>, value: u64, width: u8) {
     out.extend(&value.to_le_bytes()[..1 << width]);
 }
 
-fn put_number(out: &mut Vec<u8>, tag: u8, value: u64, width: u8) {
+pub fn put_number(out: &mut Vec<u8>, tag: u8, value: u64, width: u8) {
     out.extend([0x24 + width, tag]);
     put_width(out, value, width);
 }
@@ -75,7 +75,7 @@ pub fn canonical(entries: &[Entry], records: &[Record]) -> Vec<u8> {
 // ---- any element
 
 /// A control byte and a tag of any form.
-fn put_head(random: &mut Random, out: &mut Vec<u8>, kind: u8, tag: Option<u8>) {
+pub fn put_head(random: &mut Random, out: &mut Vec<u8>, kind: u8, tag: Option<u8>) {
     if let Some(tag) = tag {
         return out.extend([CONTEXT << 5 | kind, tag]);
     }
@@ -118,7 +118,7 @@ fn put_deep(random: &mut Random, out: &mut Vec<u8>, tag: Option<u8>) {
 }
 
 /// An element of any type, under a context tag or under any.
-fn put_any(random: &mut Random, out: &mut Vec<u8>, tag: Option<u8>, depth: usize) {
+pub fn put_any(random: &mut Random, out: &mut Vec<u8>, tag: Option<u8>, depth: usize) {
     match random.below(20) {
         0..8 => {
             let kind = random.below(8) as u8;
@@ -283,7 +283,7 @@ impl Writer<'_> {
 }
 
 /// An image with a part missing, changed, moved or twice.
-fn damaged(random: &mut Random, mut bytes: Vec<u8>) -> Vec<u8> {
+pub fn damaged(random: &mut Random, mut bytes: Vec<u8>) -> Vec<u8> {
     for _ in 0..random.pick(&[1, 1, 1, 2]) {
         if bytes.is_empty() {
             return bytes;

@@ -1,13 +1,17 @@
 //! The driver of differential runs: gives the same scripts to the oracle and to our program, and compares.
 mod compare;
 mod fields;
+mod findings;
 mod generate;
 mod images;
+mod lists;
 mod random;
+mod reader;
 mod record;
 mod run;
 mod shrink;
 mod sizes;
+mod strict;
 mod tally;
 
 use std::process::exit;
@@ -114,12 +118,8 @@ fn compare_batch(programs: &Programs, seed: u64, batch: &Batch, tally: &mut Tall
     }
 }
 
-/// Whether every answer was met often enough.
-fn complete(tally: &Tally, calls: u64, images: bool) -> bool {
-    let mut missing = tally.missing(WANTED);
-    if images {
-        missing.retain(|answer| answer.starts_with(['P', 'G']));
-    }
+/// Whether every answer was met often enough, by those that were not.
+fn complete(missing: &[String], calls: u64) -> bool {
     if missing.is_empty() {
         println!("every answer of every call was met at least {WANTED} times");
         return true;
@@ -149,7 +149,11 @@ fn differential(programs: &Programs, seed: u64, wanted: u64, images: bool) -> bo
     let seconds = start.elapsed().as_secs();
     let Tally { calls, images: loads, scripts, .. } = tally;
     println!("seed {seed}: {calls} calls in {scripts} scripts, {loads} of them loads of an image, no difference, {seconds} s");
-    complete(&tally, wanted, images)
+    let mut missing = tally.missing(WANTED);
+    if images {
+        missing.retain(|answer| answer.starts_with(['P', 'G']));
+    }
+    complete(&missing, wanted)
 }
 
 /// Counts the images that the Rust takes with the members of a record in any order, and not with them in the order of their
@@ -192,7 +196,11 @@ fn main() {
     let done = match word(0).as_str() {
         "compare" => {
             let programs = Programs { oracle: word(1), ours: word(2) };
-            differential(&programs, number(&words, 3, "seed"), number(&words, 4, "calls"), word(5) == "images")
+            let (seed, calls) = (number(&words, 3, "seed"), number(&words, 4, "calls"));
+            match word(5).as_str() {
+                "fields" => complete(&reader::compare(&programs, seed, calls, WANTED), calls),
+                kind => differential(&programs, seed, calls, kind == "images"),
+            }
         }
         "orders" => match orders(&word(1), number(&words, 2, "seed"), number(&words, 3, "images")) {
             Ok(()) => true,
@@ -202,7 +210,7 @@ fn main() {
             Ok(()) => true,
             Err(what) => fail(&what),
         },
-        _ => fail("usage: driver compare ORACLE OURS SEED CALLS [images], driver orders ORACLE SEED IMAGES, or driver record ORACLE SEED STDIN STDOUT"),
+        _ => fail("usage: driver compare ORACLE OURS SEED CALLS [images | fields], driver orders ORACLE SEED IMAGES, or driver record ORACLE SEED STDIN STDOUT"),
     };
     exit(if done { 0 } else { 1 })
 }

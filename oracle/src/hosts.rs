@@ -58,7 +58,8 @@ pub struct Apply {
 #[derive(Default)]
 pub struct Clusters {
     pub pairs: Vec<u8>,
-    pub asked: Cell<usize>,
+    /// The cluster and the attribute of each pair that was asked about, in order.
+    pub asked: RefCell<Vec<(ClusterId, AttrId)>>,
     pub above_2: Cell<bool>,
     pub captured: Vec<u8>,
     pub applied: bool,
@@ -71,8 +72,9 @@ impl SceneClusters for &Clusters {
         Ok(parent)
     }
 
-    fn check_scenable(&self, _cluster: ClusterId, _attribute: AttrId) -> Option<bool> {
-        let at = self.asked.replace(self.asked.get() + 1);
+    fn check_scenable(&self, cluster: ClusterId, attribute: AttrId) -> Option<bool> {
+        let at = self.asked.borrow().len();
+        self.asked.borrow_mut().push((cluster, attribute));
         match self.pairs.get(at) {
             Some(0) => Some(false),
             Some(1) => Some(true),

@@ -199,7 +199,7 @@ impl<const N: usize> Table<N> {
             answer.status = "F7".into();
         }
         if add.walked {
-            answer.marks.push(format!("asked={}", clusters.asked.get()));
+            answer.marks.push(asked_mark(&clusters));
         }
         answer
     }
@@ -469,6 +469,13 @@ fn walk_marks(request: &AddSceneRequest<'_>, fields: &[u8]) -> Vec<String> {
         Ok(raw) if raw.as_deref().ok() != Some(fields) => vec!["RAWDIFF".into()],
         Ok(_) => Vec::new(),
     }
+}
+
+/// The pairs that the published code asked about.
+fn asked_mark(clusters: &Clusters) -> String {
+    let asked = clusters.asked.borrow();
+    let pairs = asked.iter().map(|(cluster, attribute)| format!("{cluster}:{attribute}"));
+    format!("asked={}", joined(pairs.collect()))
 }
 
 /// Recall has no response: its statuses are errors, told apart by what the call was given.
