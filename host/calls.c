@@ -99,6 +99,17 @@ static void nothing_handed_over(void) {
     EXPECT(scenes_table_get_membership(&table, NULL, 0, group, YES).status == SCENES_SUCCESS);
 }
 
+/* A new chip: no bytes, and so no scenes, at the version that the head has. Then the table comes back from its image. */
+static void no_image(const uint8_t *image, size_t image_len) {
+    struct scenes_state before = table.state;
+    EXPECT(before.entries > 0 && before.recorded > 0 && before.dataver > 0);
+    struct scenes_outcome loaded = scenes_table_load_image(&table, NULL, 0);
+    EXPECT(loaded.status == SCENES_SUCCESS && !loaded.save && table.state.entries == 0 && table.state.recorded == 0);
+    EXPECT(table.state.dataver == before.dataver && table.state.size == before.size);
+    EXPECT(scenes_table_load_image(&table, image, image_len).status == SCENES_SUCCESS);
+    EXPECT(table.state.entries == before.entries && table.state.recorded == before.recorded && table.state.dataver == before.dataver + 1);
+}
+
 static void images(void) {
     uint8_t image[SCENES_IMAGE_MAX(N)], again[SCENES_IMAGE_MAX(N)];
     struct scenes_image_saved saved = scenes_table_save_image(&table, image, 10);
@@ -108,7 +119,7 @@ static void images(void) {
     EXPECT(saved.status == SCENES_SUCCESS && saved.len > 10 && saved.len < sizeof image && image[0] == 0x15 && image[saved.len] == 0xEE);
     EXPECT(scenes_table_save_image(&table, NULL, 0).status == SCENES_BUFFER_TOO_SHORT);
     struct scenes_state before = table.state;
-    EXPECT(scenes_table_load_image(&table, NULL, 0).status == SCENES_BAD_IMAGE && scenes_state_equal(table.state, before));
+    EXPECT(scenes_table_load_image(&table, image, 1).status == SCENES_BAD_IMAGE && scenes_state_equal(table.state, before));
     EXPECT(scenes_table_remove_fabric(&table, 0x12).save && table.state.entries < before.entries);
     struct scenes_outcome loaded = scenes_table_load_image(&table, image, saved.len);
     EXPECT(loaded.status == SCENES_SUCCESS && !loaded.save && table.state.entries == before.entries && table.state.recorded == before.recorded);
@@ -116,6 +127,7 @@ static void images(void) {
     EXPECT(scenes_table_save_image(&table, again, sizeof again).len == saved.len && memcmp(image, again, saved.len) == 0);
     image[saved.len - 1 - 2] ^= 0x80;
     EXPECT(scenes_table_load_image(&table, image, saved.len).status == SCENES_BAD_IMAGE);
+    no_image(again, saved.len);
 }
 
 /* Cluster 6 with attributes 1 and 2. */

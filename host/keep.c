@@ -81,12 +81,12 @@ static bool start_without(const char *path, uint8_t status) {
     return scenes_table_startup(&table).status == SCENES_SUCCESS;
 }
 
-/* The table of the file; an empty one if there is none. */
+/* The table of the file; an empty one if there is none yet, or if nothing was written to it, as on a new chip: no bytes are loaded then. */
 static bool start(const char *path) {
     table = scenes_table_new(N, keys, times, fields, records);
     int file = open(path, O_RDONLY);
     if (file < 0)
-        return errno == ENOENT && scenes_table_startup(&table).status == SCENES_SUCCESS;
+        return errno == ENOENT && scenes_table_load_image(&table, NULL, 0).status == SCENES_SUCCESS;
     size_t len = 0;
     ssize_t n = 1;
     /* No image that was saved here is longer. Of a longer file this front is loaded or refused, as any bytes are. */

@@ -1,4 +1,4 @@
-/* The release check of a controller in C: two owners store a scene each, one owner is removed, and the table is read. */
+/* The release check of a controller in C: on a new memory chip two owners store a scene each, one owner is removed, and the table is read. */
 #include "scenes.h"
 
 #include <stdio.h>
@@ -34,6 +34,9 @@ int main(void) {
         return 1;
     }
     struct scenes_table table = scenes_table_new(N, keys, times, fields, records);
+    struct scenes_outcome started = scenes_table_load_image(&table, NULL, 0);
+    if (started.status != SCENES_SUCCESS || started.save || table.state.entries != 0 || table.state.recorded != 0 || table.state.dataver != 0)
+        return failed("The table could not be started on a new chip.", started.status);
     for (uint8_t owner = OWNER; owner <= OTHER; owner++) {
         struct scenes_outcome stored = scenes_table_store(&table, scene_of(owner), SCENES_MEMBER_YES, captured, sizeof captured);
         if (stored.status != SCENES_SUCCESS || !stored.save || table.state.entries != owner || table.state.recorded != owner)

@@ -54,7 +54,7 @@
 
 /* What this header was written for: it steps whenever a struct, an answer or a call of the header changes. A host that may meet another
  * library compares it with scenes_version() before any other call. Version 1 had none to ask for. */
-#define SCENES_VERSION 4
+#define SCENES_VERSION 5
 
 /* An answer that is dropped is warned of, since the head is in it. Pointers are not null, and no two of a call's arrays overlap. */
 #if (defined(__cplusplus) && __cplusplus >= 201703L) || (defined(__STDC_VERSION__) && __STDC_VERSION__ >= 202311L)
@@ -381,7 +381,7 @@ SCENES_KEEP struct scenes_outcome scenes_factory_reset(SCENES_READ) SCENES_NONNU
 SCENES_KEEP struct scenes_image_saved scenes_save_image(SCENES_READ, uint8_t *SCENES_RESTRICT buffer, size_t buffer_len) SCENES_NONNULL;
 
 /* Replaces the table's scenes and records by those of an image, in order, and steps the data version. Any bytes will do: what is no image
- * is refused, and changes nothing. Answers 6, 9, 10, 0. */
+ * is refused, and changes nothing. An image of length 0, as a new memory chip has it, is scenes_startup. Answers 6, 9, 10, 0. */
 SCENES_KEEP struct scenes_outcome scenes_load_image(SCENES_WRITE, const uint8_t *SCENES_RESTRICT image, size_t image_len) SCENES_NONNULL;
 
 /* A startup without a saved table: an empty table at the data version that the head has. Answers 6, 0. */
@@ -499,7 +499,7 @@ static inline struct scenes_outcome scenes_table_keep(struct scenes_table *table
     return outcome;
 }
 
-/* An empty table in the host's arrays. For a saved one load its image by scenes_table_load_image. */
+/* An empty table in the host's arrays. For a saved one load its image by scenes_table_load_image, of length 0 if there is none yet. */
 SCENES_KEEP SCENES_NONNULL static inline struct scenes_table scenes_table_new(size_t places, uint64_t *keys, uint32_t *times,
                                                                               uint8_t *fields, uint64_t *records) {
     struct scenes_table table;

@@ -1,5 +1,5 @@
 //! What our program is given and what it has to write, by the oracle's answers.
-use crate::run::{is_dumped, is_raw, Lines};
+use crate::run::{is_dumped, is_raw, Lines, NO_BYTES};
 use crate::tally::{Call, Counts, Tally};
 
 /// The first difference: the line of the script, and what differs.
@@ -32,6 +32,7 @@ pub fn our_script(script: &[String], oracle: &mut Lines<'_>) -> Vec<String> {
     let mut ours = Vec::with_capacity(script.len());
     let mut image = "-";
     for (at, line) in script.iter().enumerate() {
+        oracle.take_refusal(line);
         let answer = oracle.take().unwrap_or("");
         if line == "P" {
             image = answer.rsplit(' ').next().unwrap_or("-");
@@ -75,6 +76,7 @@ pub fn our_answer(line: &str, answer: &str) -> String {
             }
             return words.join(" ").replace(',', " ");
         }
+        "U" if line == NO_BYTES => words[0] = "G",
         _ => return answer.to_string(),
     }
     words.join(" ")
@@ -91,6 +93,10 @@ pub fn compare(
     tally.start(script);
     for (at, line) in script.iter().enumerate() {
         let differ = |what: String| Err(Difference { at, what });
+        let refusal = oracle.take_refusal(line);
+        if refusal.is_some_and(|said| said != before.refused()) {
+            return differ(format!("no bytes: the oracle wrote {refusal:?}, where it was to refuse them and to change nothing"));
+        }
         let Some(answer) = oracle.take() else {
             return differ("the oracle wrote no answer".into());
         };

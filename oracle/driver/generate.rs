@@ -2,6 +2,7 @@
 use crate::fields::{self, hex};
 use crate::images::{self, Entry, Record};
 use crate::random::Random;
+use crate::run::NO_BYTES;
 use crate::sizes;
 
 #[derive(Clone, Copy)]
@@ -410,6 +411,7 @@ fn imaged(random: &mut Random, sizes: &[usize], lines: usize) -> Vec<String> {
                 saved = true;
             }
             16 if saved => script.push("G !".into()),
+            17 if random.percent(50) => script.push(NO_BYTES.into()),
             _ => script.push(call(random, &mut u, SMALL_CALLS)),
         }
     }

@@ -42,8 +42,9 @@ struct Batch {
     oracle_wrote: Vec<u8>,
 }
 
-fn joined(scripts: &[Vec<String>]) -> String {
-    scripts.iter().map(|script| run::text(script)).collect()
+/// The text of scripts, as one of the programs is given it.
+fn joined(scripts: &[Vec<String>], text: fn(&[String]) -> String) -> String {
+    scripts.iter().map(|script| text(script)).collect()
 }
 
 /// What makes the script of a seed and an index: any, or one of images.
@@ -63,7 +64,7 @@ fn scripts_from(make: Scripts, seed: u64, first: u64) -> Vec<Vec<String>> {
 
 fn asked(oracle: &str, make: Scripts, seed: u64, first: u64) -> Result<Batch, String> {
     let scripts = scripts_from(make, seed, first);
-    let oracle_wrote = run::run(oracle, joined(&scripts))?;
+    let oracle_wrote = run::run(oracle, joined(&scripts, run::rust_text))?;
     let mut lines = Lines(&oracle_wrote);
     let ours = scripts.iter().map(|script| compare::our_script(script, &mut lines)).collect();
     Ok(Batch { first, scripts, ours, oracle_wrote })
@@ -96,7 +97,7 @@ fn report(programs: &Programs, seed: u64, index: u64, script: &[String], found: 
         Err(what) => println!("{what}"),
         Ok(pair) => {
             let what = pair.difference.map_or("no longer found in a run of its own".into(), |d| d.what);
-            println!("smallest script found ({what}):\n{}", indented(run::text(&small).as_bytes()));
+            println!("smallest script found ({what}):\n{}", indented(run::rust_text(&small).as_bytes()));
             println!("as given to our program:\n{}", indented(run::text(&pair.ours).as_bytes()));
             println!("oracle:\n{}", indented(&pair.oracle_wrote));
             println!("ours:\n{}", indented(&pair.ours_wrote));
@@ -106,7 +107,7 @@ fn report(programs: &Programs, seed: u64, index: u64, script: &[String], found: 
 }
 
 fn compare_batch(programs: &Programs, seed: u64, batch: &Batch, tally: &mut Tally) {
-    let ours_wrote = run::run(&programs.ours, joined(&batch.ours)).unwrap_or_else(|what| fail(&what));
+    let ours_wrote = run::run(&programs.ours, joined(&batch.ours, run::text)).unwrap_or_else(|what| fail(&what));
     let (mut oracle, mut ours) = (Lines(&batch.oracle_wrote), Lines(&ours_wrote));
     for (i, script) in batch.scripts.iter().enumerate() {
         if let Err(found) = compare::compare(script, &mut oracle, &mut ours, tally) {

@@ -3,7 +3,7 @@ use std::collections::{BTreeMap, BTreeSet};
 
 use crate::compare::{our_answer, our_script};
 use crate::generate;
-use crate::run::{is_dumped, is_raw, run, text, Lines};
+use crate::run::{is_dumped, is_raw, run, rust_line, rust_text, Lines};
 use crate::tally::{answer_of, Call, Counts, ANSWERS};
 
 /// Small tables that are taken as they come, the lines that such a script may have, and how often each answer is to be
@@ -23,6 +23,7 @@ fn answers(script: &[String], oracle: &mut Lines<'_>) -> Answers {
     let mut before = Counts::default();
     let mut met = Answers::new();
     for (at, line) in script.iter().enumerate() {
+        oracle.take_refusal(line);
         let answer = oracle.take().unwrap_or("");
         let dump = if is_dumped(script, at) { oracle.take_dump() } else { &[] };
         let after = Counts::read(answer);
@@ -87,7 +88,7 @@ fn choose(oracle: &str, seed: u64) -> Result<Vec<Vec<String>>, String> {
     let mut choice = Choice { set_up: SET_UP.to_vec(), grown: GROWN.to_vec(), ..Choice::default() };
     for batch in 0..200 {
         let scripts: Vec<_> = (0..200).map(|i| generate::script(seed, 200 * batch + i)).collect();
-        let wrote = run(oracle, scripts.iter().map(|script| text(script)).collect())?;
+        let wrote = run(oracle, scripts.iter().map(|script| rust_text(script)).collect())?;
         let mut lines = Lines(&wrote);
         for script in &scripts {
             choice.consider(script, &mut lines);
@@ -102,6 +103,7 @@ fn choose(oracle: &str, seed: u64) -> Result<Vec<Vec<String>>, String> {
 /// The oracle's answers to a script, as our program writes them.
 fn answered(script: &[String], lines: &mut Lines<'_>, out: &mut String) -> Result<(), String> {
     for line in script {
+        lines.take_refusal(line);
         let answer = lines.take().ok_or("the oracle ended early")?;
         if answer.ends_with(" NOSET") || answer.starts_with('?') {
             return Err(format!("no answer to compare: {answer}"));
@@ -126,7 +128,7 @@ pub fn record(oracle: &str, seed: u64, stdin: &str, stdout: &str) -> Result<(), 
         input.push_str(&script.join("\n"));
         input.push_str("\nD\n");
     }
-    let wrote = run(oracle, input.clone())?;
+    let wrote = run(oracle, input.lines().map(|line| rust_line(line) + "\n").collect())?;
     let mut lines = Lines(&wrote);
     let mut output = String::new();
     for script in &scripts {

@@ -32,14 +32,32 @@ pub fn is_dumped(script: &[String], at: usize) -> bool {
     !is_raw(&script[at]) || (last_raw && !script[at].starts_with('N'))
 }
 
-/// The script with its dumps.
-pub fn text(script: &[String]) -> String {
+/// A load of no bytes: a startup with nothing saved for our program. The Rust refuses it, and is given such a startup behind it.
+pub const NO_BYTES: &str = "G -";
+const STARTUP: &str = "U";
+
+/// A line as the Rust is given it.
+pub fn rust_line(line: &str) -> String {
+    if line == NO_BYTES { format!("{line}\n{STARTUP}") } else { line.to_string() }
+}
+
+fn dumped(script: &[String], line_of: impl Fn(&str) -> String) -> String {
     let mut text = String::new();
     for (at, line) in script.iter().enumerate() {
-        text.push_str(line);
+        text.push_str(&line_of(line));
         text.push_str(if is_dumped(script, at) { "\nD\n" } else { "\n" });
     }
     text
+}
+
+/// The script with its dumps.
+pub fn text(script: &[String]) -> String {
+    dumped(script, str::to_string)
+}
+
+/// The same for the Rust.
+pub fn rust_text(script: &[String]) -> String {
+    dumped(script, rust_line)
 }
 
 /// Lines of an output, taken one by one.
@@ -53,6 +71,11 @@ impl<'a> Lines<'a> {
         let (line, rest) = self.0.split_at(end);
         self.0 = &rest[1..];
         Some(std::str::from_utf8(line).unwrap_or("(no text)"))
+    }
+
+    /// What the Rust said to an image of no bytes itself, which stands before its answer to the startup.
+    pub fn take_refusal(&mut self, line: &str) -> Option<&'a str> {
+        if line == NO_BYTES { self.take() } else { None }
     }
 
     /// The lines of a dump: `D` and the lines behind it that start with a blank.

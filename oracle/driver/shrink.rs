@@ -1,6 +1,6 @@
 //! The smallest script that still shows a difference.
 use crate::compare::{compare, our_script, Difference};
-use crate::run::{run, text, Lines};
+use crate::run::{run, rust_text, text, Lines};
 use crate::sizes::{LARGE, SMALL};
 use crate::tally::Tally;
 
@@ -19,7 +19,7 @@ pub struct Pair {
 
 impl Programs {
     pub fn pair(&self, script: &[String]) -> Result<Pair, String> {
-        let oracle_wrote = run(&self.oracle, text(script))?;
+        let oracle_wrote = run(&self.oracle, rust_text(script))?;
         let ours = our_script(script, &mut Lines(&oracle_wrote));
         let ours_wrote = run(&self.ours, text(&ours))?;
         let (mut oracle_lines, mut our_lines) = (Lines(&oracle_wrote), Lines(&ours_wrote));

@@ -19,6 +19,11 @@ impl Counts {
         let mut number = || words.next().and_then(|word| word.parse::<u64>().ok()).unwrap_or(0);
         Self { entries: number() as usize, records: number() as usize, version: number() as u32 }
     }
+
+    /// The answer to an image that 9 refuses, from this table.
+    pub fn refused(&self) -> String {
+        format!("G F9 0 {} {} {}", self.entries, self.records, self.version)
+    }
 }
 
 /// A call, the oracle's answer to it, and the table behind it.
@@ -71,6 +76,7 @@ impl Call<'_> {
             ("I", "00") => either(self.answer.ends_with(" none"), "nothing", "row"),
             ("X" | "F", "00") => either(self.said(2) == "1", "something went", "nothing went"),
             ("G", "00") if self.word(1) == "!" => "image of this table",
+            ("G", "00") if self.word(1) == "-" => "no bytes",
             ("G", "00") => either(self.is_canonical(), "as the Rust writes it", "written otherwise"),
             ("T", "00") => either(self.before.version != self.after.version, "records changed", "no record changed"),
             ("C", "00") if self.whole() => either(self.grew(), "group, new scenes", "group, known scenes"),
@@ -145,7 +151,8 @@ pub const ANSWERS: &[(&str, &str)] = &[
     ("F", "00 something went"), ("F", "00 nothing went"), ("F", "F1"),
     ("Z", "00"), ("U", "00"), ("W", "00"), ("E", "00"),
     ("P", "00"),
-    ("G", "00 as the Rust writes it"), ("G", "00 written otherwise"), ("G", "00 image of this table"), ("G", "F9"), ("G", "F10"),
+    ("G", "00 as the Rust writes it"), ("G", "00 written otherwise"), ("G", "00 image of this table"), ("G", "00 no bytes"),
+    ("G", "F9"), ("G", "F10"),
 ];
 
 const LENGTHS: [usize; 7] = [0, 1, 126, 127, 128, 129, 200];

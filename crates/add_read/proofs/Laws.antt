@@ -7,7 +7,7 @@ use mathlib.Core.Option.{Option, none, some}
 use native.Mathlib.Omega.{arith}
 use lib.Dec.{eqb}
 use lib.ListN.{length}
-use borrow.Author.Tests.{not-true, not-false, eq-eqb, ne-eqb, eqb-true, eqb-false}
+use borrow.Author.Tests.{not-true, eq-eqb, ne-eqb, eqb-true, eqb-false}
 use Rattle.words.specs.Constants.{success, unsound, badFieldSets, maxFields}
 use Rattle.words.specs.declared.SceneKey.{SceneKey}
 use Rattle.requests.specs.declared.Membership.{Membership}
@@ -23,9 +23,6 @@ use Rattle.commands.specs.Commands.{addScene}
 use Rattle.field_sets.specs.declared.reader.Total.the-variants.{Counted, Unreadable}
 use Rattle.field_sets.specs.Reader.{ExtensionFieldSet, setsIn, pairsOf, totalOf, holdsPairs}
 use Rattle.add_read.specs.Adding.{fieldSetsGate, earlyGates, readGate, addReadGate, addSceneRead, AsListed, ElseRefused}
-
-pub found-sound : (t : Table) (r : Bool) → r ≡ sound t → not r ≡ false → sound t ≡ true
-found-sound t r e h = sym e ∙ not-false r h
 
 -- ---- what was counted
 

@@ -8,6 +8,7 @@ use Rattle.records.specs.Records.{recordsSound, firstOwned}
 use Rattle.state.specs.Table.{entriesIn, recordsIn}
 use Rattle.state.specs.Sound.{inBounds, sound}
 use Rattle.state.specs.Answer.{refusalOf, guarded}
+use Rattle.lifecycle.specs.Lifecycle.{startup}
 use Rattle.tlv.specs.Elements.{known, opens, tagSize, width, measured, lengthSize, plainSize, little, sizeOf}
 use Rattle.tlv.specs.Elements.{contextTag, lengthFrom, valueFrom, valueEnd, whole, elementAt}
 use Rattle.tlv.specs.Passing.{nested, passed}
@@ -19,7 +20,7 @@ use Rattle.image_save.specs.Saving.{saveImage}
 use Rattle.image_reader.specs.Entries.{memberNumber, memberBool, memberOctets, keyFrom, entryAt, recordAt}
 use Rattle.image_reader.specs.Image.{membersRead, arrayUnder, arraysIn, imageIn}
 use Rattle.image_gate.specs.Verdict.{keysClash, recordsClash, verdict}
-use Rattle.image_load.specs.Loading.{putEntries, restored, loadImage}
+use Rattle.image_load.specs.Loading.{putEntries, restored, loadTlv, loadImage}
 use Rattle.image_examples.specs.Rows.{EveryRow, rows}
 
 -- ---- what computes on bytes and tables that are written out
@@ -38,7 +39,7 @@ unfolding sound inBounds allOf keysSound lengthsSound recordsSound everyBelow re
 tables = tt
 
 loading : Unit {0}
-unfolding keysClash recordsClash anyBelow firstBelow orElse firstKey firstOwned verdict putEntries putSlot overlay laid restored loadImage
+unfolding keysClash recordsClash anyBelow firstBelow orElse firstKey firstOwned verdict putEntries putSlot overlay laid restored startup loadTlv loadImage
 loading = tt
 
 saving : Unit {0}
@@ -50,4 +51,4 @@ saving = tt
 -- a group of rows each
 pub every-row : EveryRow rows
 unfolding elements reading tables loading saving
-every-row = (refl, (refl, (refl, (refl, (refl, (refl, (refl, (refl, (refl, (refl, tt))))))))))
+every-row = (refl, (refl, (refl, (refl, (refl, (refl, (refl, (refl, (refl, (refl, (refl, tt)))))))))))

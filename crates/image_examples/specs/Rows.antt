@@ -1,4 +1,4 @@
--- Document 02, Q-1: images that are loaded and saved, as one table of rows. Images are written out as bytes, in parts that have a name.
+-- Document 02, Q-1 and Q-3: images that are loaded and saved, as one table of rows. Images are written out as bytes, in parts that have a name.
 use Prim.Native.Nat.{ℕ, _+_, _-_, _^_}
 use mathlib.Core.Path.{_≡_}
 use mathlib.Core.Bool.{Bool, true, false, _&&_}
@@ -234,12 +234,21 @@ limitRows =
     ∷ record { computed = loaded (loadImage (image [] []) (tableAt (2 ^ 32 - 1))); written = Accepted success false [] [] 0 }
     ∷ []
 
+-- ---- no bytes: a startup
+
+-- no entries, no records, and the version as it was
+abbrev pub starts : ℕ → Row
+starts version = record { computed = loaded (loadImage [] (tableAt version)); written = Accepted success false [] [] version }
+
+abbrev pub startRows : List Row
+startRows = starts 7 ∷ starts (2 ^ 32 - 1) ∷ []
+
 -- ---- 9: the structure and its arrays
 
 abbrev pub outerRows : List Row
 outerRows =
-    -- no bytes
-    refuses badImage []
+    -- one byte: a structure that is cut off
+    refuses badImage (0x15 ∷ [])
     -- an array in the place of the structure
     ∷ refuses badImage (0x16 ∷ 0x36 ∷ 0x00 ∷ 0x18 ∷ 0x36 ∷ 0x01 ∷ 0x18 ∷ 0x18 ∷ [])
     -- no array of entries
@@ -369,8 +378,10 @@ abbrev pub unsoundRows : List Row
 unsoundRows =
     -- a table that is not sound, and a good image
     refusesIn unsoundTable unsound (image (entryFor 0x05) [])
-    -- and an image that 9 would refuse
+    -- and no bytes
     ∷ refusesIn unsoundTable unsound []
+    -- and an image that 9 would refuse
+    ∷ refusesIn unsoundTable unsound (0x15 ∷ [])
     -- and an image that 10 would refuse
     ∷ refusesIn unsoundTable unsound (image (entryFor globalScene) [])
     -- such a table saved
@@ -412,6 +423,7 @@ rows =
     foreignRows
     ∷ (narrowed ∷ [])
     ∷ limitRows
+    ∷ startRows
     ∷ outerRows
     ∷ missingRows
     ∷ valueRows

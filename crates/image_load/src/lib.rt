@@ -1,9 +1,10 @@
-// Loading an image into a table. All that refuses it is decided before the first write.
+// Loading an image into a table. All that refuses it is decided before the first write, and an image of no bytes is a startup.
 mod writing;
 
 use image_gate::image_gate;
 use image_reader::Arrays;
 use image_reader::arrays_in;
+use lifecycle::Lifecycle;
 use state::Outcome;
 use state::ScenesState;
 use words::Fault;
@@ -14,7 +15,8 @@ ghost use Rattle.state.specs.Table.{tableOf};
 ghost use Rattle.state.specs.Answer.{resultOf};
 ghost use Rattle.image_load.specs.Loading.{loadImage};
 
-// Replaces the entries and the records of a table by those of an image, in order, and steps the data version.
+// Replaces the entries and the records of a table by those of an image, in order, and steps the data version. No bytes leave none of either, at
+// the version that it had.
 pub fn load_image(
     state: ScenesState,
     keys: &mut [u64],
@@ -30,6 +32,9 @@ pub fn load_image(
 {
     if !state.is_sound(keys, times, fields, records) {
         return Outcome::unsaved(Fault::UNSOUND, state);
+    }
+    if image.len() == 0 {
+        return Lifecycle { state }.startup(keys, times, fields, records);
     }
     let Arrays::Both(first, second) = arrays_in(image) else {
         return Outcome::unsaved(Fault::BAD_IMAGE, state);

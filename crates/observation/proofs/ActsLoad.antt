@@ -1,8 +1,8 @@
--- What a load lets be seen of a sound table: a number, or the image's entries and records. Assumes nothing.
+-- What a load lets be seen of a sound table: a number, or the image's entries and records, and of no bytes what a startup does. Assumes nothing.
 use Prim.Native.Nat.{ℕ}
 use mathlib.Core.Path.{_≡_, refl}
 use mathlib.Core.Bool.{true, false, cond}
-use mathlib.Core.List.{List}
+use mathlib.Core.List.{List, [], _∷_}
 use mathlib.Core.Option.{Option, none, some}
 use native.Mathlib.Omega.{arith}
 use lib.ListN.{length, getD}
@@ -14,12 +14,13 @@ use Rattle.state.specs.Sound.{sound}
 use Rattle.state.specs.Answer.{resultOf, refused, refusalOf, guarded}
 use Rattle.image_reader.specs.Image.{Image, imageIn}
 use Rattle.image_gate.specs.Verdict.{clashes, verdict}
-use Rattle.image_load.specs.Loading.{restored, loadImage}
+use Rattle.image_load.specs.Loading.{restored, loadTlv, loadImage}
 use Rattle.image_load.proofs.Restoring.{each, restored-entries, restored-records, restored-sound}
 use Rattle.image_load.proofs.Decoding.{image-decoded}
-use Rattle.observation.specs.Calls.{load, step, ofResult, Bytes}
+use Rattle.observation.specs.Calls.{load, step, ofResult, Bytes, NoBytesStart}
 use Rattle.observation.proofs.Changes.{viewOf, stepped}
-use Rattle.observation.proofs.Effects.{loadedBy, loaded}
+use Rattle.observation.proofs.Effects.{loadedBy, decoded, loaded}
+use Rattle.observation.proofs.ActsLifecycle.{start-acts}
 use Rattle.observation.proofs.Loaded.{bytes-below, each-at}
 use Rattle.observation.proofs.Acts.{Shows, itself, Acts, results, acts-passed, acts-refused}
 
@@ -47,7 +48,7 @@ module _ (t : Table) (sd : sound t ≡ true) (image : List ℕ) (bytes : Bytes i
 
   -- what follows from what the bytes are read as
   judged : (o : Option Image) → imageIn (t .state .size) image ≡ o
-      → Acts (ofResult (guarded (refused t) (refusalOf t (verdict o)) (resultOf success false (restored o t)))) (loaded o (viewOf t))
+      → Acts (ofResult (guarded (refused t) (refusalOf t (verdict o)) (resultOf success false (restored o t)))) (decoded o (viewOf t))
   unfolding verdict viewOf
   judged none e = acts-refused (refused t) t sd badImage _ ofResult _ (λ z. omega arith) (results badImage false t (viewOf t) (itself t sd))
   judged (some i) e =
@@ -57,6 +58,12 @@ module _ (t : Table) (sd : sound t ≡ true) (image : List ℕ) (bytes : Bytes i
         | false ↦ acts-passed (refused t) t sd success _ ofResult _ refl (results success false _ _ (restores i e))
       ])
 
-  pub load-acts : Acts (step (load image) t) (loaded (imageIn (t .state .size) image) (viewOf t))
-  unfolding step loadImage
-  load-acts = judged (imageIn (t .state .size) image) refl
+pub load-acts : (t : Table) → sound t ≡ true → (image : List ℕ) → Bytes image → Acts (step (load image) t) (loaded image (viewOf t))
+unfolding step loadTlv loadImage viewOf
+load-acts t sd [] bytes = start-acts t sd
+load-acts t sd (b ∷ bs) bytes = judged t sd (b ∷ bs) bytes (imageIn (t .state .size) (b ∷ bs)) refl
+
+-- a load of no bytes is a startup
+pub no-bytes-start : NoBytesStart
+unfolding step loadImage
+no-bytes-start t = refl

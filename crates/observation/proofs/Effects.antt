@@ -18,7 +18,7 @@ use Rattle.commands.specs.declared.Applied.the-variants.{Yes, Failed}
 use Rattle.reads.specs.declared.Transition.{Transition}
 use Rattle.state.specs.Table.{Table}
 use Rattle.reads.specs.Reads.{effectiveTime}
-use Rattle.image_reader.specs.Image.{Image}
+use Rattle.image_reader.specs.Image.{Image, imageIn}
 use Rattle.image_gate.specs.Verdict.{clashes}
 use Rattle.add_read.specs.Adding.{addReadGate}
 use Rattle.observation.specs.Lists.{bit, count, find, keep}
@@ -129,6 +129,15 @@ loadedBy true i v = (refuse clashingImage, v)
 loadedBy false i v = (done false, record { size = v .size; dataver = stepped (v .dataver); entries = i .entries; records = i .records })
 
 -- what a load makes of what the bytes are read as
-abbrev pub loaded : Option Image → View → Seen
-loaded none v = (refuse badImage, v)
-loaded (some i) v = loadedBy (clashes i) i v
+abbrev pub decoded : Option Image → View → Seen
+decoded none v = (refuse badImage, v)
+decoded (some i) v = loadedBy (clashes i) i v
+
+-- a startup without a saved table
+abbrev pub started : View → Seen
+started v = (done false, record { size = v .size; dataver = v .dataver; entries = []; records = [] })
+
+-- no bytes are such a startup
+abbrev pub loaded : List ℕ → View → Seen
+loaded [] v = started v
+loaded (b ∷ bs) v = decoded (imageIn (v .size) (b ∷ bs)) v

@@ -14,14 +14,13 @@ use Rattle.commands.specs.declared.Applied.{Applied}
 use Rattle.reads.specs.declared.Transition.{Transition}
 use Rattle.state.specs.Table.{Table}
 use Rattle.state.specs.Sound.{sound}
-use Rattle.image_reader.specs.Image.{imageIn}
 use Rattle.observation.specs.Lists.{find, keep}
 use Rattle.observation.specs.Calls.{Command, add, addRead, view, remove, removeAll, store, recall, copy, membership, info, Call, command, notice, removal, reset, start, failSafeEvent, load, next, sceneKey, groupKey, Bytes, CommandInRange, InRange}
 use Rattle.observation.specs.Equivalence.{keyIs, mine, ofFabric}
 use Rattle.observation.proofs.Lists.{has, takeOut}
 use Rattle.observation.proofs.Lookups.{holds, entryOf}
 use Rattle.observation.proofs.Changes.{View, viewOf, roomIn, placeFor, stepped, entriesSet, written, invalidated, remembered}
-use Rattle.observation.proofs.Effects.{sees, refuse, done, gateOf, timeOf, viewed, applied, recalled, addOut, sources, target, scopeOf, copyOut, idsIn, infoOut, loaded}
+use Rattle.observation.proofs.Effects.{sees, refuse, done, gateOf, timeOf, viewed, applied, recalled, addOut, sources, target, scopeOf, copyOut, idsIn, infoOut, started, loaded}
 
 -- the laws of one fabric's commands on one endpoint, of one sound table whose view is v
 pub record CommandLaws (f e : ℕ) (t : Table) (v : View) : Type 0 where
@@ -83,9 +82,9 @@ pub record EventLaws (t : Table) (v : View) : Type 0 where
         },
       )
   pub reset-acts : sees reset t ≡ (done false, record { size = v .size; dataver = stepped (v .dataver); entries = []; records = [] })
-  pub start-acts : sees start t ≡ (done false, record { size = v .size; dataver = v .dataver; entries = []; records = [] })
+  pub start-acts : sees start t ≡ started v
   pub failSafe-acts : sees failSafeEvent t ≡ (done false, v)
-  pub load-acts : (image : List ℕ) → Bytes image → sees (load image) t ≡ loaded (imageIn (v .size) image) v
+  pub load-acts : (image : List ℕ) → Bytes image → sees (load image) t ≡ loaded image v
 
 pub record Laws : Type 0 where
   pub commands : (f e : ℕ) (t : Table) → sound t ≡ true → f < 2 ^ 8 → e < 2 ^ 16 → CommandLaws f e t (viewOf t)

@@ -34,7 +34,7 @@ use Rattle.reads.specs.Reads.{readAt, recallLookup, viewScene, Listed, sceneIds
 use Rattle.image_reader.specs.Image.{Image, imageIn}
 use Rattle.image_save.specs.Saving.{imageOf, Saved, unsaved, saveImage}
 use Rattle.image_gate.specs.Verdict.{clashes, verdict}
-use Rattle.image_load.specs.Loading.{loadImage}
+use Rattle.image_load.specs.Loading.{loadTlv, loadImage}
 use Rattle.field_sets.specs.Reader.{setsIn, holdsPairs}
 use Rattle.add_read.specs.Adding.{fieldSetsGate, addReadGate, addSceneRead}
 use Rattle.lifecycle.specs.Lifecycle.{scenableAttributeChanged, removedFabric, removeForFabric, factoryReset, startup, failSafe}
@@ -300,10 +300,12 @@ module _ (t : Table) where
       (either P (leb (length (imageOf t)) (length buffer)) refl refl) refl
 
   pub load-numbers : (image : List ℕ) → Among (0 ∷ 6 ∷ 9 ∷ 10 ∷ []) (loadImage image t .status)
-  unfolding loadImage
-  load-numbers image =
+  unfolding startup loadTlv loadImage
+  load-numbers [] =
+      guarded-is (Among (0 ∷ 6 ∷ 9 ∷ 10 ∷ [])) refl (λ (r : Result). r .status) (refused t) (λ n. refl) t success _ refl refl refl
+  load-numbers (b ∷ bs) =
       let P : ℕ → Type 0 = Among (0 ∷ 6 ∷ 9 ∷ 10 ∷ []) in
-      guarded-is P refl (λ (r : Result). r .status) (refused t) (λ n. refl) t _ _ refl (verdict-is P refl refl refl (imageIn (t .state .size) image)) refl
+      guarded-is P refl (λ (r : Result). r .status) (refused t) (λ n. refl) t _ _ refl (verdict-is P refl refl refl (imageIn (t .state .size) (b ∷ bs))) refl
 
   pub failSafe-numbers : Among (0 ∷ 6 ∷ []) (failSafe t .status)
   unfolding failSafe

@@ -2,7 +2,7 @@
 use Prim.Native.Nat.{ℕ, _^_, _<_}
 use mathlib.Core.Path.{_≡_, refl, sym, subst}
 use mathlib.Core.Bool.{true, false}
-use mathlib.Core.List.{List, []}
+use mathlib.Core.List.{List, [], _∷_}
 use mathlib.Core.Option.{Option, none, some}
 use lib.Dec.{eqb}
 use lib.ListN.{length}
@@ -17,7 +17,7 @@ use Rattle.image_gate.specs.Verdict.{clashes}
 use Rattle.observation.specs.Calls.{Command, add, addRead, view, remove, removeAll, store, recall, copy, membership, info, Call, command, notice, removal, reset, start, failSafeEvent, load, next, sceneKey, Bytes, CommandInRange, InRange}
 use Rattle.observation.specs.Equivalence.{Reached, empty, after}
 use Rattle.observation.proofs.Changes.{View, viewOf, stepped}
-use Rattle.observation.proofs.Effects.{Seen, sees, gateOf, loadedBy, loaded}
+use Rattle.observation.proofs.Effects.{Seen, sees, gateOf, loadedBy, decoded, loaded}
 use Rattle.observation.proofs.Laws.{Laws}
 use Rattle.observation.proofs.Sound.{to-each}
 use Rattle.observation.proofs.Invariant.{Inv, empty-inv, invalidated-inv, dropped-inv}
@@ -74,13 +74,17 @@ pub record Standing (t : Table) : Type 0 where
   pub inv : Inv (viewOf t)
 
 -- a load that is refused leaves the view, and another one that of the image
-load-inv : (image : List ℕ) (v : View) → Bytes image → Inv v → (o : Option Image) → imageIn (v .size) image ≡ o → Inv (loaded o v .1)
-load-inv image v bytes inv none e = inv
-load-inv image v bytes inv (some i) e =
+decoded-inv : (image : List ℕ) (v : View) → Bytes image → Inv v → (o : Option Image) → imageIn (v .size) image ≡ o → Inv (decoded o v .1)
+decoded-inv image v bytes inv none e = inv
+decoded-inv image v bytes inv (some i) e =
     (elim (clashes i) as (λ b. clashes i ≡ b → Inv (loadedBy b i v .1)) [
       | true ↦ λ q. inv
       | false ↦ λ q. loaded-inv (v .size) (stepped (v .dataver)) image i (inv .small) bytes e q
     ]) refl
+
+load-inv : (image : List ℕ) (v : View) → Bytes image → Inv v → Inv (loaded image v .1)
+load-inv [] v bytes inv = empty-inv _ _ (inv .small)
+load-inv (b ∷ bs) v bytes inv = decoded-inv (b ∷ bs) v bytes inv (imageIn (v .size) (b ∷ bs)) refl
 
 module _ (laws : Laws) where
   step-inv : (c : Call) (t : Table) → InRange c → Standing t → Inv (sees c t .1)
@@ -98,7 +102,7 @@ module _ (laws : Laws) where
   step-inv start t h s = subst (λ (o : Seen). Inv (o .1)) (sym (laws .events t (s .intact) .start-acts)) (empty-inv _ _ (s .inv .small))
   step-inv failSafeEvent t h s = subst (λ (o : Seen). Inv (o .1)) (sym (laws .events t (s .intact) .failSafe-acts)) (s .inv)
   step-inv (load image) t h s =
-      subst (λ (o : Seen). Inv (o .1)) (sym (laws .events t (s .intact) .load-acts image h)) (load-inv image (viewOf t) h (s .inv) (imageIn (viewOf t .size) image) refl)
+      subst (λ (o : Seen). Inv (o .1)) (sym (laws .events t (s .intact) .load-acts image h)) (load-inv image (viewOf t) h (s .inv))
 
   pub step-standing : (c : Call) (t : Table) → InRange c → Standing t → Standing (next c t)
   step-standing c t h s = record { intact = laws .step-sound c t h (s .intact); inv = step-inv c t h s }

@@ -3,7 +3,7 @@
 use Prim.Native.Nat.{ℕ, zero, suc, min}
 use mathlib.Core.Path.{_≡_, refl, sym, ap, _∙_}
 use mathlib.Core.Bool.{Bool, true, false, _&&_}
-use mathlib.Core.List.{List}
+use mathlib.Core.List.{List, [], _∷_}
 use native.Mathlib.Omega.{arith}
 use lib.Dec.{eqb, ltb}
 use lib.ListN.{length, getD}
@@ -36,7 +36,7 @@ use Rattle.copies.specs.Copy.{Copied, copiedOf, copyTo, copyEntry, copyFound, c
 use Rattle.reads.specs.Reads.{unread, readAt, recallLookup, viewScene, Listed, unlisted, sceneIds, listIds, getSceneMembership, noRow, infoRow, readFabricSceneInfo}
 use Rattle.lifecycle.specs.Lifecycle.{scenableAttributeChanged, removedFabric, removeForFabric, factoryReset, startup, failSafe}
 use Rattle.image_save.specs.Saving.{Saved, unsaved, saveImage}
-use Rattle.image_load.specs.Loading.{loadImage}
+use Rattle.image_load.specs.Loading.{loadTlv, loadImage}
 use Rattle.add_read.specs.Adding.{addReadGate, addSceneRead}
 use Rattle.observation.specs.Refusals.{Outward, add, addRead, store, remove, removeAll, recall, lookup, view, copy, membership, info, notice, removal, reset, start, failSafeEvent, save, load, Answered, result, scene, list, row, image, status, answer, only, EveryRefusal, ElevenByInputs, outward, RefusedRun}
 use Rattle.observation.specs.Calls as calls
@@ -211,7 +211,7 @@ module _ (c : CopyRequest) (t : Table) where
 pub every-refusal : EveryRefusal
 unfolding addScene addSceneRead storeScene storeCaptured removeScene removeAllScenes removedAll recallScene recallLookup viewScene
     getSceneMembership readFabricSceneInfo scenableAttributeChanged removeForFabric removedFabric factoryReset startup failSafe
-    saveImage loadImage
+    saveImage loadTlv loadImage
 every-refusal (add key time m pairs ext) t h x = ap result (result-bare t _ _ (saved-bare t _ (upsert-bare t key time ext)) h)
 every-refusal (addRead key time m pairs ext) t h x = ap result (result-bare t _ _ (saved-bare t _ (upsert-bare t key time ext)) h)
 every-refusal (store key m captured) t h x = ap result (result-bare t _ _ (stored-bare t key _ (upsert-bare t key _ _)) h)
@@ -235,7 +235,8 @@ every-refusal start t h x = ap result (result-bare t _ _ (succeeded t _ refl) h)
 every-refusal failSafeEvent t h x = ap result (result-bare t _ _ (succeeded t _ refl) h)
 every-refusal (save buffer) t h x =
     ap image (guarded-bare (λ (s : Saved). s .answer .status) (unsaved buffer t) (λ _. refl) _ _ (λ z. absurd (z refl)) h)
-every-refusal (load bytes) t h x = ap result (result-bare t _ _ (succeeded t _ refl) h)
+every-refusal (load []) t h x = ap result (result-bare t _ _ (succeeded t _ refl) h)
+every-refusal (load (b ∷ bs)) t h x = ap result (result-bare t _ _ (succeeded t _ refl) h)
 
 -- ---- by the inputs alone
 

@@ -2,7 +2,7 @@
 use Prim.Native.Nat.{ℕ}
 use mathlib.Core.Path.{_≡_, ap, _∙_}
 use mathlib.Core.Bool.{false, cond}
-use mathlib.Core.List.{[]}
+use mathlib.Core.List.{[], _∷_}
 use lib.Dec.{eqb}
 use Rattle.words.specs.Constants.{success, unsound}
 use Rattle.reads.specs.declared.SceneRead.{SceneRead}
@@ -13,7 +13,7 @@ use Rattle.commands.specs.Commands.{addScene, storeScene, removeScene, removeAl
 use Rattle.copies.specs.Copy.{copyScene}
 use Rattle.reads.specs.Reads.{unread, viewScene, recallLookup, getSceneMembership, readFabricSceneInfo}
 use Rattle.lifecycle.specs.Lifecycle.{scenableAttributeChanged, removeForFabric, factoryReset, startup, failSafe}
-use Rattle.image_load.specs.Loading.{loadImage}
+use Rattle.image_load.specs.Loading.{loadTlv, loadImage}
 use Rattle.add_read.specs.Adding.{addSceneRead}
 use Rattle.observation.specs.Calls.{Command, add, addRead, view, remove, removeAll, store, recall, copy, membership, info, Call, command, notice, removal, reset, start, failSafeEvent, load, Out, withState, ofResult, ofView, ofRecall, ofList, ofInfo, sceneKey, does, step}
 use Rattle.observation.specs.Refusals.{UnsoundRun}
@@ -47,14 +47,15 @@ module _ (t : Table) (h : sound t ≡ false) where
   does-refused f e (info single) = ap (λ r. ofInfo r t) (refuses _ _ _)
 
   step-refused : (c : Call) → Refused (step c t)
-  unfolding step scenableAttributeChanged removeForFabric factoryReset startup failSafe loadImage
+  unfolding step scenableAttributeChanged removeForFabric factoryReset startup failSafe loadTlv loadImage
   step-refused (command f e c) = does-refused f e c
   step-refused (notice e) = ap ofResult (refuses _ _ _)
   step-refused (removal f) = ap ofResult (refuses _ _ _)
   step-refused reset = ap ofResult (refuses _ _ _)
   step-refused start = ap ofResult (refuses _ _ _)
   step-refused failSafeEvent = ap ofResult (refuses _ _ _)
-  step-refused (load image) = ap ofResult (refuses _ _ _)
+  step-refused (load []) = ap ofResult (refuses _ _ _)
+  step-refused (load (b ∷ bs)) = ap ofResult (refuses _ _ _)
 
 pub unsound-refused : UnsoundRun
 unsound-refused t h c = step-refused t h c

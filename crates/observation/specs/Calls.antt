@@ -142,6 +142,10 @@ answer c t = step c t .0
 abbrev pub next : Call → Table → Table
 next c t = step c t .1
 
+-- Q-3, in every run: a load of no bytes is a startup
+abbrev pub NoBytesStart : Type 0
+NoBytesStart = (t : Table) → step (load []) t ≡ step start t
+
 -- ---- inputs of their widths: u8, u16, u32 and bytes
 
 abbrev pub Bytes : List ℕ → Type 0

@@ -25,7 +25,7 @@ use Rattle.image_save.specs.Saving.{imageOf, TimesFit}
 use Rattle.image_reader.specs.Entries.{memberNumber, memberOctets, keyFrom, entryAt}
 use Rattle.image_reader.specs.Image.{membersRead, arrayUnder, arraysIn, imageIn}
 use Rattle.image_gate.specs.Verdict.{keysClash, recordsClash, verdict}
-use Rattle.image_load.specs.Loading.{loadImage}
+use Rattle.image_load.specs.Loading.{loadTlv, loadImage}
 use Rattle.restoration.specs.Restoration.{RestoresAny}
 
 -- scene 5 of fabric 1 twice, in a table of two places
@@ -47,7 +47,7 @@ unfolding known opens tagSize width measured lengthSize plainSize little sizeOf 
     nested passed unsigned numberAt octets octetsAt insideAt memberAt tagged found
     memberNumber memberOctets keyFrom entryAt membersRead arrayUnder arraysIn imageIn
     sound inBounds allOf keysSound lengthsSound recordsSound everyBelow refusalOf guarded entriesIn recordsIn positions
-    keysClash recordsClash anyBelow firstBelow orElse firstKey firstOwned verdict loadImage lowFirst smallest flatMap imageBytes
+    keysClash recordsClash anyBelow firstBelow orElse firstKey firstOwned verdict loadTlv loadImage lowFirst smallest flatMap imageBytes
 twice-refused = refl
 
 -- "that 10 would not refuse" is needed

@@ -17,18 +17,20 @@ use Rattle.slots.specs.Slots.{SceneEntry, entryAt, lengthAt, laid}
 use Rattle.state.specs.Table.{Table, entriesIn, recordsIn}
 use Rattle.state.specs.Sound.{sound}
 use Rattle.state.specs.Answer.{Result, resultOf, refused, refusalOf, guarded}
+use Rattle.lifecycle.specs.Lifecycle.{startup}
 use Rattle.image_reader.specs.Image.{Image, imageIn}
 use Rattle.image_writer.specs.Image.{imageBytes}
 use Rattle.image_save.specs.Saving.{imageOf, Saved, unsaved, bufferGate, saveImage}
 use Rattle.image_save.proofs.Bound.{image-bound}
 use Rattle.image_gate.specs.Verdict.{clashes, verdict, imageGate}
-use Rattle.image_load.specs.Loading.{restored, loadImage}
+use Rattle.image_load.specs.Loading.{restored, loadTlv, loadImage}
+use Rattle.image_load.proofs.Loads.{by-length, read-some}
 use Rattle.image_load.proofs.Restoring.{each, short, restored-entries, restored-records}
 use Rattle.image_load.proofs.Decoding.{image-decoded}
 use Rattle.observation.proofs.Sound.{to-each}
 use Rattle.observation.proofs.Views.{entries-length, records-length, records-list}
 use Rattle.observation.proofs.Acts.{passes}
-use Rattle.restoration.specs.Restoration.{contents, Savable, Restored, Restores, SavedRestores, Rewrites}
+use Rattle.restoration.specs.Restoration.{contents, Savable, Restored, Restores, SavedRestores, Rewrites, RewritesNone}
 use Rattle.restoration.proofs.Arrays.{Every}
 use Rattle.restoration.proofs.Members.{GoodEntry, GoodRecord}
 use Rattle.restoration.proofs.Whole.{image-read}
@@ -83,10 +85,11 @@ module _ (t : Table) (g : Savable t) where
 -- what a load makes of bytes that are read as an image and that nothing refuses
 loads : (bytes : List ℕ) (u : Table) (i : Image) → sound u ≡ true → imageIn (u .state .size) bytes ≡ some i → clashes i ≡ false
     → loadImage bytes u ≡ resultOf success false (restored (some i) u)
-unfolding loadImage verdict
+unfolding loadTlv verdict
 loads bytes u i s e c =
     let gate : imageGate (u .state .size) bytes ≡ success = rw (e, c) in
-    passes (refused u) u s (imageGate (u .state .size) bytes) _ gate ∙ ap (λ (o : Option Image). resultOf success false (restored o u)) e
+    by-length .some-bytes bytes u (read-some (u .state .size) bytes i e)
+    ∙ passes (refused u) u s (imageGate (u .state .size) bytes) _ gate ∙ ap (λ (o : Option Image). resultOf success false (restored o u)) e
 
 -- and what the table then has
 module _ (bytes : List ℕ) (u : Table) (i : Image) (s : sound u ≡ true) (e : imageIn (u .state .size) bytes ≡ some i) (c : clashes i ≡ false)
@@ -138,9 +141,9 @@ saved-restores t u buffer g s n room =
 -- ---- rewritten
 
 -- a load that answers 0 found a sound table and an image that does not clash
-accepted : (bytes : List ℕ) (t : Table) (i : Image) → imageIn (t .state .size) bytes ≡ some i → loadImage bytes t .status ≡ success
+accepted : (bytes : List ℕ) (t : Table) (i : Image) → imageIn (t .state .size) bytes ≡ some i → loadTlv bytes t .status ≡ success
     → (sound t ≡ true) × (clashes i ≡ false)
-unfolding loadImage guarded refusalOf verdict
+unfolding loadTlv guarded refusalOf verdict
 accepted bytes t i e =
     rw e
     (elim (sound t) as (λ b. sound t ≡ b
@@ -157,7 +160,14 @@ accepted bytes t i e =
 
 pub rewrites : Rewrites
 rewrites bytes t i below e q =
-    let a = accepted bytes t i e q in
+    let l = by-length .some-bytes bytes t (read-some (t .state .size) bytes i e) in
+    let a = accepted bytes t i e (sym (ap (λ (r : Result). r .status) l) ∙ q) in
     let h = image-decoded bytes below (t .state .size) i e in
     ap₂ imageBytes (loaded-entries bytes t i (a .0) e (a .1) (h .entries-few) (h .fields-short) (h .records-few))
     (loaded-records bytes t i (a .0) e (a .1) (h .entries-few) (h .fields-short) (h .records-few))
+
+-- a startup leaves no entries and no records
+pub rewrites-none : RewritesNone
+unfolding startup entriesIn recordsIn positions
+rewrites-none t s =
+    ap (λ (r : Result). imageOf (r .table)) (by-length .no-bytes [] t refl ∙ passes (refused t) t s success _ refl)

@@ -3,7 +3,7 @@
 use Prim.Native.Nat.{ℕ, _+_, _%_, _^_, _≤_, _<_}
 use mathlib.Core.Path.{_≡_}
 use mathlib.Core.Bool.{true, false}
-use mathlib.Core.List.{List}
+use mathlib.Core.List.{List, []}
 use mathlib.Core.Option.{some}
 use lib.ListN.{length, take, getD}
 use Rattle.words.specs.Constants.{success}
@@ -50,6 +50,10 @@ abbrev pub Rewrites : Type 0
 Rewrites =
     (bytes : List ℕ) (t : Table) (i : Image) → ((k : ℕ) → getD bytes k 0 < 2 ^ 8) → imageIn (t .state .size) bytes ≡ some i
     → loadImage bytes t .status ≡ success → imageOf (loadImage bytes t .table) ≡ imageBytes (i .entries) (i .records)
+
+-- after a load of no bytes, the image of a table without entries and records
+abbrev pub RewritesNone : Type 0
+RewritesNone = (t : Table) → sound t ≡ true → imageOf (loadImage [] t .table) ≡ imageBytes [] []
 
 -- the same as `Restores` of every sound table, which is false: one that holds a key twice is saved, and its image is refused by 10
 abbrev pub RestoresAny : Type 0

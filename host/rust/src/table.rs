@@ -5,7 +5,7 @@ use crate::fields::{field_pairs, pairs_max};
 use crate::requests::{pair, Applied, CopyRequest, GroupKey, Membership, SceneKey, Transition};
 
 /// The version of the interface that this crate is for. It steps whenever a struct, an answer or a call of the library changes.
-pub const VERSION: u32 = 4;
+pub const VERSION: u32 = 5;
 
 /// The version of the library that was linked: [`VERSION`], unless the crate was linked with another's.
 ///
@@ -144,7 +144,8 @@ impl<const N: usize> Scenes<N> {
     }
 
     /// Replaces the scenes and the records by those of an image, in order, and steps the data version. Whatever the bytes are: what is
-    /// no image of a table of this size is refused, and changes nothing.
+    /// no image of a table of this size is refused, and changes nothing. No bytes, as a new memory chip has them, are a
+    /// [`startup`](Scenes::startup).
     ///
     /// ```
     /// use scenes::{Error, Scenes};
@@ -152,6 +153,8 @@ impl<const N: usize> Scenes<N> {
     /// let mut table = Scenes::<16>::new();
     /// assert_eq!(table.load(b"\x15\x36\x00\x18"), Err(Error::BadImage));
     /// assert!(table.load(b"\x15\x36\x00\x18\x36\x01\x18\x18").is_ok());
+    /// assert_eq!((table.entries(), table.data_version()), (0, 1));
+    /// assert!(table.load(b"").is_ok());
     /// assert_eq!((table.entries(), table.data_version()), (0, 1));
     /// ```
     pub fn load(&mut self, image: &[u8]) -> Result<Done, Error> {

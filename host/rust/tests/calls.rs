@@ -380,13 +380,32 @@ fn save() {
     assert!(buffer[len..].iter().all(|&b| b == 0xEE));
 }
 
-// Every cut of an image, every byte of it changed: a number or a table, and after a number the very table.
+// A new chip: no bytes. What is left is what a startup leaves, to the last byte, at a version that did not step.
+#[test]
+fn a_load_of_no_bytes_is_a_startup() {
+    let table = &mut with::<16>(&[5, 6]);
+    assert_eq!(table.store(key(1, 1, 7), YES, &[1, 2, 3]), SAVED);
+    assert_eq!(table.factory_reset(), UNSAVED);
+    assert_eq!(table.store(key(1, 1, 8), YES, &[4, 5]), SAVED);
+    let started = &mut table.clone();
+    assert_eq!(started.startup(), UNSAVED);
+    assert_eq!(table.load(&[]), UNSAVED);
+    assert_eq!(table, started);
+    assert_eq!((table.entries(), table.recorded(), table.data_version()), (0, 0, 3));
+    let mut buffer = [0; Scenes::<16>::IMAGE_MAX];
+    assert_eq!(table.save(&mut buffer), Ok(&b"\x15\x36\x00\x18\x36\x01\x18\x18"[..]));
+    for byte in 0..=255 {
+        refused(table, 9, |t| t.load(&[byte]));
+    }
+}
+
+// Every cut of an image but that of no bytes, every byte of it changed: a number or a table, and after a number the very table.
 #[test]
 fn load() {
     let table = &mut with::<16>(&[5, 6]);
     let mut buffer = [0; Scenes::<16>::IMAGE_MAX];
     let image = table.save(&mut buffer).unwrap().to_vec();
-    for end in 0..image.len() - 1 {
+    for end in 1..image.len() - 1 {
         refused(table, 9, |t| t.load(&image[..end]));
     }
     let mut taken = 0;

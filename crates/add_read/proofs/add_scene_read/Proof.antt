@@ -1,11 +1,12 @@
 -- `add_read::add_scene_read` meets its contract. Assumes nothing.
-use mathlib.Core.Path.{_≡_}
+use mathlib.Core.Path.{_≡_, sym, _∙_}
 use mathlib.Core.Bool.{true}
+use borrow.Author.Tests.{not-false}
 use borrow.Author.Needs.{needs}
 use Rattle.state.specs.Table.{Table, tableOf}
 use Rattle.state.specs.Sound.{sound}
 use Rattle.state.specs.Answer.{Result, resultOf}
-use Rattle.add_read.proofs.Laws.{found-sound, read-unsound, read-refuses, read-adds}
+use Rattle.add_read.proofs.Laws.{read-unsound, read-refuses, read-adds}
 use Rattle.add_read.proofs.add_scene_read.Statement.{statement}
 use Rattle.add_read.proofs.add_scene_read.Tie as tie
 
@@ -30,7 +31,7 @@ added c =
     resultOf (c .add-scene .result .status) (c .add-scene .result .save) (tableOf (c .add-scene .result .state) (l .0) (l .1 .0) (l .1 .1 .0) (l .1 .1 .1 .0))
 
 sound-there : (c : tie.Else1) → sound (came (c .before)) ≡ true
-sound-there c = found-sound (came (c .before)) _ (c .before .is-sound .ensures) (c .if1 .left)
+sound-there c = sym (c .before .is-sound .ensures) ∙ not-false _ (c .if1 .left)
 
 returns : tie.Need-returns
 returns c =
