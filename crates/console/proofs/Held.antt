@@ -12,8 +12,9 @@ use Rattle.text_output.specs.declared.reason.Reason.the-variants.{TooLong}
 use Rattle.text_output.specs.Writing.{Sheet, sheet, writes}
 use Rattle.text_output.specs.Errors.{errorLine}
 use Rattle.text_output.proofs.Whole.{puts-whole}
-use Rattle.script.specs.declared.runner.Machine.{Machine}
-use Rattle.script.specs.Running.{counted, Session, session, runLine}
+use Rattle.script_machine.specs.declared.Machine.{Machine}
+use Rattle.script_machine.specs.Machines.{counted}
+use Rattle.script.specs.Running.{Session, session, runLine}
 use Rattle.script.proofs.Lengths.{error-puts, line-puts}
 use Rattle.console.specs.Whole.{longest, lineRoom, heldAnswer, Whole}
 

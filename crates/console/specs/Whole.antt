@@ -8,8 +8,9 @@ use lib.ListN.{length, take}
 use Rattle.text_output.specs.declared.reason.Reason.the-variants.{TooLong}
 use Rattle.text_output.specs.Writing.{Sheet, sheet, puts, writes, whole}
 use Rattle.text_output.specs.Errors.{errorLine}
-use Rattle.script.specs.declared.runner.Machine.{Machine}
-use Rattle.script.specs.Running.{counted, session, runLine}
+use Rattle.script_machine.specs.declared.Machine.{Machine}
+use Rattle.script_machine.specs.Machines.{counted}
+use Rattle.script.specs.Running.{session, runLine}
 
 -- no answer has more bytes: a table as it stands, of 1,024 entries with 128 field bytes each and 1,024 records, has the most
 abbrev pub longest : ℕ

@@ -1,8 +1,8 @@
 // Runs a script from standard input and writes its answers to standard output: scenebench and scenetrace are a call of it each.
 use libc::STDIN_FILENO;
 use libc::STDOUT_FILENO;
-use script::Machine;
-use script::Ran;
+use script_machine::Machine;
+use script_machine::Ran;
 ghost use Prim.Native.Nat.{_+_, _≤_};
 ghost use lib.ListN.{length};
 ghost use Rattle.words.specs.Constants.{maxScenes};
@@ -84,7 +84,7 @@ fn run_held(
             at,
         );
     }
-    script::too_long(machine, out, at)
+    script_machine::too_long(machine, out, at)
 }
 
 // Runs the line that the buffer holds, and writes the output out if much of it is held.
@@ -209,7 +209,7 @@ fn read_part(chunk: &mut [u8], held: usize) -> Part
 
 // Tells that the input cannot be read on. A line that was gathered in part is not run: nobody knows its rest.
 fn tell_failed(machine: Machine, out: &mut [u8]) -> bool {
-    let told = script::read_failed(machine, out, 0);
+    let told = script_machine::read_failed(machine, out, 0);
     let end = told.at;
     flush(out, end)
 }

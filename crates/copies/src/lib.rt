@@ -57,14 +57,14 @@ impl Copies {
                     state,
                 };
             }
-            slots::put_copy(keys, times, fields, at, n, word);
+            slot_writes::put_copy(keys, times, fields, at, n, word);
             state.entries = n + 1;
             return Copied {
                 status: Status::SUCCESS,
                 state,
             };
         };
-        slots::put_copy(keys, times, fields, at, to, word);
+        slot_writes::put_copy(keys, times, fields, at, to, word);
         Copied {
             status: Status::SUCCESS,
             state,

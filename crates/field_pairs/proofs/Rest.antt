@@ -1,9 +1,9 @@
 -- What the reader still yields from a cursor, as words. Assumes nothing.
 use Prim.Native.Nat.{ℕ, zero, suc, _+_, _-_, _≤_, _<_}
-use mathlib.Core.Path.{_≡_, refl, sym, ap, subst, _∙_}
-use mathlib.Core.Bool.{Bool, true, false, cond, false≢true}
+use mathlib.Core.Path.{_≡_, refl, sym, ap, _∙_}
+use mathlib.Core.Bool.{true, false, cond, false≢true}
 use mathlib.Core.List.{List, [], _∷_, _++_, map, flatMap}
-use mathlib.Core.Option.{Option, none, some, Option·map}
+use mathlib.Core.Option.{Option, none, some}
 use native.Mathlib.Omega.{arith}
 use lib.Dec.{ltb}
 use lib.ListN.{length, set, length-set}
@@ -14,7 +14,7 @@ use Rattle.field_sets.specs.declared.reader.Cursor.{Cursor}
 use Rattle.field_sets.specs.declared.reader.Item.the-variants.{Cluster, Attribute, Done, Refused}
 use Rattle.field_sets.specs.Pairs.{pairAt}
 use Rattle.field_sets.specs.Sets.{nextSet}
-use Rattle.field_sets.specs.Reader.{ExtensionFieldSet, fieldSet, attributesFrom, setsFrom, pairWord, pairsOf}
+use Rattle.field_sets.specs.Reader.{ExtensionFieldSet, attributesFrom, setsFrom, pairWord, pairsOf}
 use Rattle.field_sets.specs.Reader.{cursorOf, start, nextItem}
 use Rattle.field_sets.proofs.SetLaws.{set-within}
 use Rattle.field_sets.proofs.Steps.{AtAttribute, at-cluster, at-attribute, at-end, at-refusal}

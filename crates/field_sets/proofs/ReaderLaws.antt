@@ -1,8 +1,8 @@
 -- The laws of the sets in field bytes, of the pairs in them, and of what the reader yields. Assumes nothing.
 use Prim.Native.Nat.{ℕ, zero, suc, _+_, _-_, _≤_, _<_}
-use mathlib.Core.Path.{_≡_, refl, sym, ap, subst, _∙_}
+use mathlib.Core.Path.{_≡_, refl, ap, subst, _∙_}
 use mathlib.Core.Bool.{true, false, cond}
-use mathlib.Core.List.{List, [], _∷_, _++_, map, flatMap}
+use mathlib.Core.List.{List, [], _∷_, map, flatMap}
 use mathlib.Core.Option.{Option, none, some, Option·map}
 use native.Mathlib.Omega.{arith}
 use lib.Dec.{eqb}
@@ -14,7 +14,7 @@ use Rattle.tlv.specs.Passing.{reading}
 use Rattle.tlv_skip.specs.Containers.{Known, Refused, onward, taken, takenFrom}
 use Rattle.tlv_skip.proofs.Taking.{known-so, unknown}
 use Rattle.field_sets.specs.declared.pairs.Pair.the-variants.{Attribute, NoPair}
-use Rattle.field_sets.specs.declared.pairs.Array.the-variants.{Pairs, NoArray}
+use Rattle.field_sets.specs.declared.pairs.Array.the-variants.{Pairs}
 use Rattle.field_sets.specs.declared.sets.FieldSet.the-variants.{Set, End, NoSet}
 use Rattle.field_sets.specs.declared.reader.Total.{Total}
 use Rattle.field_sets.specs.declared.reader.Total.the-variants.{Counted, Unreadable}
@@ -22,7 +22,7 @@ use Rattle.field_sets.specs.Pairs.{pairAt, pairing, pairCounted, pairsAt
 use Rattle.field_sets.specs.Sets.{nextSet, setting}
 use Rattle.field_sets.specs.Reader.{ExtensionFieldSet, fieldSet, attributesFrom, sets, setsFrom, pairWord, pairsOf, totalOf}
 use Rattle.field_sets.proofs.PairLaws.{arrayed, counted-on, no-array}
-use Rattle.field_sets.proofs.SetLaws.{Within, set-within}
+use Rattle.field_sets.proofs.SetLaws.{set-within}
 
 -- so many pairs more
 abbrev pub raised : ℕ → Total → Total

@@ -1,6 +1,6 @@
 -- The laws of reading a set. Assumes nothing.
 use Prim.Native.Nat.{ℕ, suc, _+_, _*_, _^_, _≤_, _<_}
-use mathlib.Core.Path.{_≡_, refl, sym, ap, subst, _∙_}
+use mathlib.Core.Path.{_≡_, refl, ap, subst, _∙_}
 use mathlib.Core.Bool.{true, false, cond}
 use mathlib.Core.List.{List}
 use native.Mathlib.Omega.{arith}
@@ -8,7 +8,6 @@ use lib.Dec.{eqb}
 use lib.ListN.{length}
 use Rattle.tlv.specs.declared.elements.Element.{Element}
 use Rattle.tlv.specs.declared.elements.Parsed.the-variants.{Whole, Malformed}
-use Rattle.tlv.specs.declared.passing.Next.{Next}
 use Rattle.tlv.specs.declared.passing.Next.the-variants.{At, Broken}
 use Rattle.tlv.specs.Types.{arrayType, endType}
 use Rattle.tlv.specs.Elements.{elementAt}

@@ -1,6 +1,6 @@
 -- The reader yields the sets of the bytes and their pairs, in order, and then says that it is done; or it refuses them. Assumes nothing.
 use Prim.Native.Nat.{ℕ, zero, suc, _+_, _-_, _≤_, _<_}
-use mathlib.Core.Path.{_≡_, refl, sym, ap, subst, _∙_}
+use mathlib.Core.Path.{_≡_, refl, sym, ap, subst}
 use mathlib.Core.List.{List, [], _∷_, _++_, map, flatMap}
 use mathlib.Core.Option.{Option, none, some, Option·map}
 use native.Mathlib.Omega.{arith}
@@ -11,8 +11,8 @@ use Rattle.field_sets.specs.declared.sets.FieldSet.the-variants.{Set, En
 use Rattle.field_sets.specs.declared.reader.Item.the-variants as item
 use Rattle.field_sets.specs.Pairs.{pairAt, pairing}
 use Rattle.field_sets.specs.Sets.{nextSet, setting}
-use Rattle.field_sets.specs.Reader.{ExtensionFieldSet, fieldSet, attributesFrom, sets, setsIn, cursorOf, start, nextItem}
-use Rattle.field_sets.specs.Reader.{Yield, cluster, attribute, items, itemsOf, yielded, Walk, done, refused, atCluster, atAttribute, Yields}
+use Rattle.field_sets.specs.Reader.{ExtensionFieldSet, fieldSet, attributesFrom, sets, cursorOf, nextItem}
+use Rattle.field_sets.specs.Reader.{Yield, cluster, attribute, itemsOf, yielded, Walk, done, refused, atCluster, atAttribute, Yields}
 use Rattle.field_sets.proofs.SetLaws.{set-within}
 use Rattle.field_sets.proofs.ReaderLaws.{inFront, attributes-count}
 

@@ -47,7 +47,7 @@ fn put_entries(
                 };
                 let from = slot.from;
                 let to = slot.to;
-                slots::put(
+                slot_writes::put(
                     keys,
                     times,
                     fields,

@@ -12,7 +12,7 @@ use Rattle.text_output.specs.declared.reason.Reason.the-variants.{Unknown, Miss
 use Rattle.text_output.specs.Errors.{reasonText, errorLine}
 use Rattle.text_output.specs.Writing.{Sheet, writes, Puts}
 use Rattle.text_output.proofs.Whole.{total, puts-nothing, puts-most, number-length}
-use Rattle.script.specs.declared.runner.Machine.{Machine}
+use Rattle.script_machine.specs.declared.Machine.{Machine}
 use Rattle.script_lines.specs.Lines.{Meaning, Number, Text, Unclear, Said, Wrong, Call, lineSays, lineLeft}
 use Rattle.script_lines.specs.Lines as lines
 use Rattle.script_lines.specs.Values.{valueAt}
@@ -23,8 +23,9 @@ use Rattle.script_answers.specs.Dump.{tableLines}
 use Rattle.script_answers.proofs.AnswerLengths.{all-puts, size-puts, table-puts, answerMost, answer-puts}
 use Rattle.script_sets.specs.Texts.{setsLine}
 use Rattle.script_sets.proofs.Lengths.{sets-puts}
+use Rattle.script_machine.specs.Machines.{sized}
 use Rattle.script.specs.Calls.{call}
-use Rattle.script.specs.Running.{Session, session, tableIn, answered, sized, wrong, called, obeyed, numbers, textIn, texts, saidRuns, runLine}
+use Rattle.script.specs.Running.{Session, session, tableIn, answered, wrong, called, obeyed, numbers, textIn, texts, saidRuns, runLine}
 use Rattle.script.proofs.RunLaws.{call-fits}
 
 reason-length : (r : Reason) → length (reasonText r) ≤ 21

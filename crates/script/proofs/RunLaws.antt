@@ -9,8 +9,8 @@ use borrow.Author.Tests.{eqb-true, eq-eqb, ne-eqb}
 use Rattle.words.specs.Below.{positions}
 use Rattle.state.specs.Table.{Table, tableOf}
 use Rattle.script_answers.specs.declared.Answer.{Answer}
-use Rattle.script.specs.declared.runner.Machine.{Machine}
-use Rattle.script.specs.declared.runner.Ran.{Ran}
+use Rattle.script_machine.specs.declared.Machine.{Machine}
+use Rattle.script_machine.specs.declared.Ran.{Ran}
 use Rattle.text_output.specs.declared.reason.Reason.the-variants.{NoTable}
 use Rattle.text_output.specs.Writing.{Sheet, sheet, writes}
 use Rattle.script_answers.specs.Answers.{answerLine, sizeLine, fits}
@@ -24,7 +24,8 @@ use Rattle.script_reads.specs.Reads.{query, view, recall, listIn, list, info}
 use Rattle.script_events.specs.Writes.{hostWrite, setVersion, pushEntry, pushRecord}
 use Rattle.script_events.specs.Events.{event}
 use Rattle.script_lines.specs.Lines.{oneOf, kindsOf, Meaning, wordRead}
-use Rattle.script.specs.Running.{sized, withState, Ended, Session, session, tableIn, answered, wrong, answeredCall, called, obeyed, numbers, texts}
+use Rattle.script.specs.Running.{withState, Session, session, tableIn, answered, wrong, answeredCall, called, obeyed, numbers, texts}
+use Rattle.script_machine.specs.Machines.{sized, Ended}
 use Rattle.script_answers.proofs.DoneLaws.{fit-called}
 use Rattle.script_commands.proofs.Fits.{command-fits}
 use Rattle.script_reads.proofs.Fits.{query-fits}

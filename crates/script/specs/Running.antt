@@ -1,18 +1,15 @@
 -- What a line leaves: the machine, the lent memory, the buffer of lists and images, the line itself and the output.
-use Prim.Native.Nat.{ℕ, _+_, _%_, _^_}
-use mathlib.Core.Path.{_≡_}
-use mathlib.Core.Bool.{Bool, true, false, cond}
+use Prim.Native.Nat.{ℕ}
+use mathlib.Core.Bool.{cond}
 use mathlib.Core.List.{List, [], map}
 use lib.Dec.{eqb}
 use lib.ListN.{getD}
 use Rattle.slots.specs.Slots.{Slots, slotsOf}
 use Rattle.state.specs.declared.ScenesState.{ScenesState}
-use Rattle.state.specs.Table.{Table, newState}
-use Rattle.script.specs.declared.runner.Machine.{Machine}
-use Rattle.script.specs.declared.runner.Ran.{Ran}
+use Rattle.state.specs.Table.{Table}
 use Rattle.text_output.specs.declared.reason.Reason.{Reason}
 use Rattle.text_output.specs.declared.reason.Reason.the-variants.{NoTable}
-use Rattle.text_output.specs.Writing.{Sheet, sheet, writes}
+use Rattle.text_output.specs.Writing.{Sheet, writes}
 use Rattle.text_output.specs.Errors.{errorLine}
 use Rattle.script_answers.specs.Answers.{sizeLine, answerLine}
 use Rattle.script_answers.specs.Dump.{tableLines}
@@ -20,29 +17,9 @@ use Rattle.script_lines.specs.Lines.{Meaning, Number, Text, Unclear, Said, Noth
 use Rattle.script_answers.specs.Done.{Called, answerOf}
 use Rattle.script_lines.specs.Values.{valueAt}
 use Rattle.script_sets.specs.Texts.{setsLine}
+use Rattle.script_machine.specs.declared.Machine.{Machine}
+use Rattle.script_machine.specs.Machines.{sized}
 use Rattle.script.specs.Calls.{call}
-
--- ---- the machine
-
--- before the first line: no table
-abbrev pub newMachine : Bool → Machine
-newMachine trace = record { state = newState 0; present = false; trace = trace; lines = 0 }
-
--- one more line was read
-abbrev pub counted : Machine → Machine
-counted m = record { state = m .state; present = m .present; trace = m .trace; lines = (m .lines + 1) % 2 ^ 64 }
-
--- an empty table of a size
-abbrev pub sized : ℕ → Machine → Machine
-sized size m = record { state = newState size; present = true; trace = m .trace; lines = m .lines }
-
-abbrev pub withState : ScenesState → Machine → Machine
-withState state m = record { state = state; present = m .present; trace = m .trace; lines = m .lines }
-
--- a line that leaves a machine that is known, and an output that is known
-pub record Ended (m : Machine) (written : Sheet → Sheet) (out : List ℕ) (at : ℕ) (after : List ℕ) (r : Ran) : Type 0 where
-  pub machine : r .machine ≡ m
-  pub output : sheet after (r .at) ≡ written (sheet out at)
 
 -- ---- all that a line is run on
 
@@ -68,6 +45,10 @@ answered m written s = record { machine = m; slots = s .slots; records = s .reco
 -- the line is not understood
 abbrev pub wrong : Reason → Session → Session
 wrong reason s = answered (s .machine) (writes (errorLine (s .machine .lines) reason)) s
+
+-- with the head that a call leaves
+abbrev pub withState : ScenesState → Machine → Machine
+withState state m = record { state = state; present = m .present; trace = m .trace; lines = m .lines }
 
 -- the table and the buffer of lists and images that a call leaves, and its answer
 abbrev pub answeredCall : ℕ → Called → Session → Session

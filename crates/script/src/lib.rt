@@ -2,8 +2,4 @@
 mod calls;
 mod runner;
 
-pub use runner::Machine;
-pub use runner::Ran;
-pub use runner::read_failed;
 pub use runner::run_line;
-pub use runner::too_long;

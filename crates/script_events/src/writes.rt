@@ -99,7 +99,7 @@ fn push_entry(
         times.len(),
         fields.len(),
     ) {
-        slots::put(keys, times, fields, n, key.word(), time, ext);
+        slot_writes::put(keys, times, fields, n, key.word(), time, ext);
         state.entries = n + 1;
         return raw(Status::SUCCESS, state);
     }

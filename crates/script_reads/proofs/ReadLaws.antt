@@ -1,6 +1,6 @@
 -- The laws that take what a read of the table ensures to the definition of its letter. Assumes nothing.
 use Prim.Native.Nat.{ℕ}
-use mathlib.Core.Path.{_≡_, refl, sym, ap, _∙_}
+use mathlib.Core.Path.{_≡_, refl, ap, _∙_}
 use mathlib.Core.Bool.{Bool, true, false, cond}
 use mathlib.Core.List.{List}
 use lib.Dec.{eqb, ltb}
@@ -22,7 +22,7 @@ use Rattle.state.specs.Change.{findScene}
 use Rattle.state.specs.Answer.{Result, resultOf, guarded}
 use Rattle.reads.specs.Reads.{readAt, viewScene, Listed, listedOf, listIds, getSceneMembership, infoRow, readFabricSceneInfo}
 use Rattle.script_answers.specs.declared.Tail.{Tail}
-use Rattle.script_answers.specs.Done.{Done, doneOf, readOf, calledOf}
+use Rattle.script_answers.specs.Done.{doneOf, readOf, calledOf}
 use Rattle.script_reads.specs.Reads.{sceneTail, viewed, recalled, infoTail, informed, listTail, listed}
 use Rattle.words.specs.declared.Found.the-variants as finding
 

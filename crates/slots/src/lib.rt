@@ -1,4 +1,5 @@
-// The lent slices of the entries: key words, times, and for each entry a length byte with room for its fields.
+// The lent slices of the entries: key words, times, and for each entry a length byte with room for its fields. Here they are read; the crate
+// slot_writes writes them.
 use words::Found;
 use words::KeyRange;
 use words::KeyWord;
@@ -12,7 +13,7 @@ ghost use Rattle.words.specs.Constants.{stride, maxFields};
 ghost use lib.Dec.{eqb, leb};
 ghost use Rattle.words.specs.Below.{everyBelow};
 ghost use Rattle.words.specs.declared.Found.the-variants.{Nothing};
-ghost use Rattle.slots.specs.Slots.{firstKey, countKeys, keysSound, lengthsSound, entrySound, ofFour, ofEight, lengthAt, fieldsAt, overlay, slotsOf, putSlot, copySlot, lengthThen, part, outside, gathered, laid, scenesInside};
+ghost use Rattle.slots.specs.Slots.{firstKey, countKeys, keysSound, lengthsSound, entrySound, ofFour, ofEight, lengthAt, fieldsAt, laid, scenesInside};
 
 // Whether one of the eight key words from a position on is this one.
 fn in_block(keys: &[u64], at: usize, key: u64) -> bool
@@ -161,150 +162,6 @@ pub fn field_bytes(fields: &[u8], at: usize) -> &[u8]
     let size = length_at(fields, at);
     let from = at * Slot::STRIDE + 1;
     &fields[from..from + size]
-}
-
-// Writes a length byte and as many bytes from base on.
-fn put_bytes(fields: &mut [u8], base: usize, ext: &[u8])
-    requires { ⌜ length (now ext) ≤ maxFields ⌝ }
-    requires { ⌜ base + stride ≤ length (now fields) ⌝ }
-    ensures { λ _. ⌜ now (fields .exit) ≡ overlay base (lengthThen (now (ext .entry))) (now (fields .entry)) ⌝ }
-{
-    fields[base] = ext.len() as u8;
-    let mut i = 0;
-    while i < ext.len() {
-        fields[base + 1 + i] = ext[i];
-        i += 1;
-    }
-}
-
-// Writes an entry at a position: its field bytes past the new length stay.
-pub fn put(
-    keys: &mut [u64],
-    times: &mut [u32],
-    fields: &mut [u8],
-    at: usize,
-    key: u64,
-    time: u32,
-    ext: &[u8],
-)
-    requires { ⌜ length (now ext) ≤ maxFields ⌝ }
-    requires { ⌜ at < length (now keys) ⌝ }
-    requires { ⌜ at < length (now times) ⌝ }
-    requires { ⌜ at * stride + stride ≤ length (now fields) ⌝ }
-    ensures { λ _.
-        let before = slotsOf (now (keys .entry)) (now (times .entry)) (now (fields .entry)) in
-        let after = slotsOf (now (keys .exit)) (now (times .exit)) (now (fields .exit)) in
-        ⌜ after ≡ putSlot at key time (now (ext .entry)) before ⌝ }
-{
-    keys[at] = key;
-    times[at] = time;
-    put_bytes(fields, at * Slot::STRIDE, ext);
-}
-
-// Copies the bytes of an entry from one place to an earlier one, or to the same.
-fn copy_bytes(fields: &mut [u8], from: usize, to: usize)
-    requires { ⌜ to ≤ from ⌝ }
-    requires { ⌜ from + stride ≤ length (now fields) ⌝ }
-    ensures { λ _. ⌜ now (fields .exit) ≡ overlay to (part from stride (now (fields .entry))) (now (fields .entry)) ⌝ }
-{
-    let mut i: usize = 0;
-    while i < Slot::STRIDE {
-        fields[to + i] = fields[from + i];
-        i += 1;
-    }
-}
-
-// Copies an entry with all its bytes to an earlier position, or to the same.
-pub fn copy_slot(keys: &mut [u64], times: &mut [u32], fields: &mut [u8], from: usize, to: usize)
-    requires { ⌜ to ≤ from ⌝ }
-    requires { ⌜ from < length (now keys) ⌝ }
-    requires { ⌜ from < length (now times) ⌝ }
-    requires { ⌜ from * stride + stride ≤ length (now fields) ⌝ }
-    ensures { λ _.
-        let before = slotsOf (now (keys .entry)) (now (times .entry)) (now (fields .entry)) in
-        let after = slotsOf (now (keys .exit)) (now (times .exit)) (now (fields .exit)) in
-        ⌜ after ≡ copySlot from to before ⌝ }
-{
-    if to < from {
-        keys[to] = keys[from];
-        times[to] = times[from];
-        copy_bytes(fields, from * Slot::STRIDE, to * Slot::STRIDE);
-    }
-}
-
-// Drops those of the first n entries whose key word lies in a range: the others move to the front, in order. How many they are.
-pub fn retain(
-    keys: &mut [u64],
-    times: &mut [u32],
-    fields: &mut [u8],
-    n: usize,
-    range: KeyRange,
-) -> usize
-    requires { ⌜ n ≤ length (now keys) ⌝ }
-    requires { ⌜ n ≤ length (now times) ⌝ }
-    requires { ⌜ n * stride ≤ length (now fields) ⌝ }
-    ensures { λ r.
-        let before = slotsOf (now (keys .entry)) (now (times .entry)) (now (fields .entry)) in
-        let after = slotsOf (now (keys .exit)) (now (times .exit)) (now (fields .exit)) in
-        let kept = outside (now (keys .entry)) n range in
-        ⌜ (r ≡ length kept) × (after ≡ gathered kept before) ⌝ }
-{
-    let mut i = 0;
-    let mut j = 0;
-    while i < n {
-        if range.holds(keys[i]) {
-            i += 1;
-        } else {
-            copy_slot(keys, times, fields, i, j);
-            i += 1;
-            j += 1;
-        }
-    }
-    j
-}
-
-// Writes a length byte and the bytes up to it from one place of the field bytes to another, of which no byte is part of the first
-// unless they are the same.
-fn put_bytes_of(fields: &mut [u8], from: usize, to: usize)
-    requires { ⌜ from * stride + stride ≤ length (now fields) ⌝ }
-    requires { ⌜ to * stride + stride ≤ length (now fields) ⌝ }
-    requires { ⌜ lengthAt (now fields) from ≤ maxFields ⌝ }
-    ensures { λ _. ⌜ now (fields .exit) ≡ overlay (to * stride) (lengthThen (fieldsAt (now (fields .entry)) from)) (now (fields .entry)) ⌝ }
-{
-    let source = from * Slot::STRIDE;
-    let target = to * Slot::STRIDE;
-    let size = fields[source] as usize;
-    let mut i = 0;
-    while i <= size {
-        fields[target + i] = fields[source + i];
-        i += 1;
-    }
-}
-
-// Writes the time and the fields of one entry at another position, under a key word: there the bytes past the new length stay.
-pub fn put_copy(
-    keys: &mut [u64],
-    times: &mut [u32],
-    fields: &mut [u8],
-    from: usize,
-    to: usize,
-    key: u64,
-)
-    requires { ⌜ to < length (now keys) ⌝ }
-    requires { ⌜ from < length (now times) ⌝ }
-    requires { ⌜ to < length (now times) ⌝ }
-    requires { ⌜ from * stride + stride ≤ length (now fields) ⌝ }
-    requires { ⌜ to * stride + stride ≤ length (now fields) ⌝ }
-    requires { ⌜ lengthAt (now fields) from ≤ maxFields ⌝ }
-    ensures { λ _.
-        let before = slotsOf (now (keys .entry)) (now (times .entry)) (now (fields .entry)) in
-        let after = slotsOf (now (keys .exit)) (now (times .exit)) (now (fields .exit)) in
-        ⌜ after ≡ putSlot to key (getD (now (times .entry)) from 0) (fieldsAt (now (fields .entry)) from) before ⌝ }
-{
-    let time = times[from];
-    keys[to] = key;
-    times[to] = time;
-    put_bytes_of(fields, from, to);
 }
 
 // Writes the scene ids of those of the first n key words that lie in a range, in order, into the front of a buffer. How many they are.

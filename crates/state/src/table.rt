@@ -129,7 +129,7 @@ impl ScenesState {
         let Found::At(at) = found else {
             let n = self.entries;
             if self.may_append(key.fabric) {
-                slots::put(keys, times, fields, n, word, time, ext);
+                slot_writes::put(keys, times, fields, n, word, time, ext);
                 self.entries = n + 1;
                 return Outcome {
                     status: Status::SUCCESS,
@@ -139,7 +139,7 @@ impl ScenesState {
             }
             return Outcome::unsaved(Status::SC_INSUFFICIENT_SPACE, self);
         };
-        slots::put(keys, times, fields, at, word, time, ext);
+        slot_writes::put(keys, times, fields, at, word, time, ext);
         Outcome {
             status: Status::SUCCESS,
             save: true,
@@ -165,7 +165,7 @@ impl ScenesState {
             ⌜ after ≡ swapRemove at before ⌝ }
     {
         let last = self.entries - 1;
-        slots::copy_slot(keys, times, fields, last, at);
+        slot_writes::copy_slot(keys, times, fields, last, at);
         self.entries = last;
         self
     }
@@ -187,7 +187,7 @@ impl ScenesState {
             ⌜ after ≡ retainOutside range before ⌝ }
     {
         let entries = self.entries;
-        let left = slots::retain(keys, times, fields, entries, range);
+        let left = slot_writes::retain(keys, times, fields, entries, range);
         self.entries = left;
         self
     }

@@ -1,6 +1,6 @@
 -- The laws of skipping an element. Assumes nothing.
-use Prim.Native.Nat.{ℕ, zero, suc, _+_, _-_, _≤_, _<_}
-use mathlib.Core.Path.{_≡_, refl, sym, ap, _∙_}
+use Prim.Native.Nat.{ℕ, zero, suc, _-_, _≤_, _<_}
+use mathlib.Core.Path.{_≡_, refl, ap}
 use mathlib.Core.Bool.{true, false, cond}
 use mathlib.Core.List.{List}
 use native.Mathlib.Omega.{arith}
@@ -13,7 +13,7 @@ use Rattle.tlv.specs.Elements.{opens, elementAt}
 use Rattle.tlv.specs.Passing.{reading}
 use Rattle.tlv.proofs.Heads.{element-on}
 use Rattle.tlv.proofs.Passes.{at-same, nowhere}
-use Rattle.tlv_skip.specs.Containers.{Taken, Known, Refused, taken, takenFrom}
+use Rattle.tlv_skip.specs.Containers.{Taken, Known, Refused, takenFrom}
 use Rattle.tlv_skip.specs.Skipping.{past, behind, skipped}
 use Rattle.tlv_skip.proofs.Taking.{Forward, known-next, unknown, taken-leads}
 

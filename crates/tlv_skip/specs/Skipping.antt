@@ -4,12 +4,11 @@
 use Prim.Native.Nat.{ℕ, zero, suc}
 use mathlib.Core.Bool.{cond}
 use mathlib.Core.List.{List}
-use Rattle.tlv.specs.declared.elements.Element.{Element}
 use Rattle.tlv.specs.declared.passing.Next.{Next}
 use Rattle.tlv.specs.declared.passing.Next.the-variants.{At, Broken}
 use Rattle.tlv.specs.Elements.{opens, elementAt}
 use Rattle.tlv.specs.Passing.{reading}
-use Rattle.tlv_skip.specs.Containers.{Taken, Known, Refused, onward, takenFrom}
+use Rattle.tlv_skip.specs.Containers.{Taken, Known, Refused, takenFrom}
 
 -- a member of which nothing is kept but where it ends
 abbrev pub past : Next → Taken (Unit {0})

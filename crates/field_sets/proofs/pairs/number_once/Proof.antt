@@ -1,6 +1,5 @@
 -- `field_sets::pairs::number_once` meets its contract. Assumes nothing.
 use mathlib.Core.Path.{_≡_, sym, _∙_}
-use native.Mathlib.Omega.{arith}
 use borrow.Author.Needs.{needs}
 use borrow.Author.Tests.{lt-ltb, le-ltb}
 use Rattle.tlv.specs.declared.values.Number.the-variants.{Value}

@@ -1,5 +1,4 @@
 -- `field_sets::pairs::pair_of` meets its contract. Assumes nothing.
-use mathlib.Core.Path.{sym}
 use borrow.Author.Needs.{needs}
 use Rattle.field_sets.proofs.pairs.pair_of.Statement.{statement}
 use Rattle.field_sets.proofs.pairs.pair_of.Tie as tie

@@ -4,8 +4,6 @@ use mathlib.Core.Path.{_≡_, sym, _∙_}
 use native.Mathlib.Omega.{arith}
 use borrow.Author.Needs.{needs}
 use lib.ListN.{length}
-use Rattle.field_sets.specs.declared.sets.FieldSet.the-variants.{Set}
-use Rattle.field_sets.specs.Sets.{nextSet}
 use Rattle.field_sets.specs.Reader.{totalOf, setsIn}
 use Rattle.field_sets.proofs.SetLaws.{Within, set-within}
 use Rattle.field_sets.proofs.ReaderLaws.{totalFrom, total-ends, total-fails, total-goes, total-begins}

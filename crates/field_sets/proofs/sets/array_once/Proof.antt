@@ -1,5 +1,4 @@
 -- `field_sets::sets::array_once` meets its contract. Assumes nothing.
-use mathlib.Core.Path.{sym, _∙_}
 use borrow.Author.Needs.{needs}
 use borrow.Author.Tests.{eq-eqb, ne-eqb}
 use Rattle.field_sets.proofs.sets.array_once.Statement.{statement}

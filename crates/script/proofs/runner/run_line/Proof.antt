@@ -3,12 +3,13 @@ use Prim.Native.Nat.{ℕ}
 use mathlib.Core.Path.{_≡_, sym, ap, _∙_}
 use mathlib.Core.List.{List}
 use Rattle.text_output.specs.Writing.{sheet}
-use Rattle.script.specs.declared.runner.Machine.{Machine}
+use Rattle.script_machine.specs.declared.Machine.{Machine}
 use Rattle.script_lines.specs.declared.reader.Line.{Line}
 use Rattle.script_lines.specs.declared.reader.Verdict.{Verdict}
 use Rattle.script_lines.specs.Lines.{lineSays, lineLeft, ReadsLine, verdictSays, saidOf}
 use Rattle.script_lines.specs.Values.{bytesAt}
-use Rattle.script.specs.Running.{counted, Session, session, wrong, obeyed, saidRuns, runLine}
+use Rattle.script.specs.Running.{Session, session, wrong, obeyed, saidRuns, runLine}
+use Rattle.script_machine.specs.Machines.{counted}
 use Rattle.script.proofs.RunLaws.{ended, same-words}
 use borrow.Author.Needs.{needs}
 use Rattle.script.proofs.runner.run_line.Statement.{statement}
