@@ -79,6 +79,29 @@ static void list_and_info(void) {
     EXPECT(!scenes_is_sound(table.state, keys, N - 1, times, N, fields, sizeof fields, records, N));
 }
 
+static uint8_t smaller(size_t number, uint8_t most) {
+    return number < most ? (uint8_t)number : most;
+}
+
+/* A remaining capacity is reported up to 253, info's count up to 255. */
+static void reported(void) {
+    enum { MANY = 515, SHARE = (MANY - 1) / 2 };
+    static uint64_t many_keys[MANY], many_records[MANY];
+    static uint32_t many_times[MANY];
+    static uint8_t many_fields[SCENES_STRIDE * MANY];
+    for (size_t n = 500; n <= MANY; n++) {
+        struct scenes_table empty = scenes_table_new(n, many_keys, many_times, many_fields, many_records);
+        EXPECT(scenes_table_get_membership(&empty, NULL, 0, group, YES).remaining == smaller((n - 1) / 2, SCENES_MAX_REMAINING));
+    }
+    struct scenes_table many = scenes_table_new(MANY, many_keys, many_times, many_fields, many_records);
+    for (uint16_t i = 1; i <= SHARE; i++) {
+        struct scenes_key key = {0x12, 0x3456, i, 1};
+        EXPECT(scenes_table_add(&many, key, 0, YES, NULL, 0, NULL, 0).save);
+        struct scenes_info_read info = scenes_table_read_info(&many, 0x12, 0x3456, SCENES_SINGLE_NO);
+        EXPECT(info.count == smaller(i, UINT8_MAX) && info.remaining == smaller((size_t)(SHARE - i), SCENES_MAX_REMAINING));
+    }
+}
+
 static void copies_and_removals(void) {
     struct scenes_copy_request request = {0x12, 0x3456, 0xF0, {0x789A, 0xBC}, {0xFEDC, 0xA9}};
     EXPECT(scenes_table_copy(&table, request, YES, SCENES_MEMBER_FAILED).status == SCENES_MEMBERSHIP_FAILED);
@@ -327,6 +350,7 @@ int main(void) {
     writes();
     scene_reads();
     list_and_info();
+    reported();
     images();
     copies_and_removals();
     nothing_handed_over();

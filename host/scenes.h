@@ -54,7 +54,7 @@
 
 /* What this header was written for: it steps whenever a struct, an answer or a call of the header changes. A host that may meet another
  * library compares it with scenes_version() before any other call. Version 1 had none to ask for. */
-#define SCENES_VERSION 5
+#define SCENES_VERSION 6
 
 /* An answer that is dropped is warned of, since the head is in it. Pointers are not null, and no two of a call's arrays overlap. */
 #if (defined(__cplusplus) && __cplusplus >= 201703L) || (defined(__STDC_VERSION__) && __STDC_VERSION__ >= 202311L)
@@ -109,6 +109,7 @@ extern "C" {
 #define SCENES_MAX_FIELDS 128     /* the most field bytes of a scene */
 #define SCENES_STRIDE 129         /* bytes of `fields` for each scene */
 #define SCENES_MAX_TIME 60000000u /* the longest transition time */
+#define SCENES_MAX_REMAINING 253  /* the most that is reported of a remaining capacity: so many, or more, remain */
 #define SCENES_IMAGE_MAX(n) ((size_t)171 * (n) + 8) /* no image of a table of n places has more bytes */
 #define SCENES_PAIRS_MAX(n) ((size_t)(n) / 5)       /* no n field bytes hold more pairs: each takes five bytes at least */
 #define SCENES_NO_POSITION 1024   /* the position that a refused view or lookup answers: no table has an entry there */
@@ -209,7 +210,8 @@ struct scenes_scene_read {
     size_t len;
 };
 
-/* The remaining capacity, and how many scene ids were written. A refused list has 0 and 0, and the buffer is as it was. */
+/* The remaining capacity, at most SCENES_MAX_REMAINING, and how many scene ids were written. A refused list has 0 and 0, and the buffer is
+ * as it was. */
 struct scenes_list_read {
     struct scenes_state state;
     uint8_t status;
@@ -217,8 +219,9 @@ struct scenes_list_read {
     size_t len;
 };
 
-/* Whether there is a row, and the row; group 0, scene 0 and not valid where the fabric has no current scene. A fabric without scenes on the
- * endpoint and without a current scene on any has no row: status 0, `present` false, and 0 or false in the rest, as in a refusal. */
+/* Whether there is a row, and the row; group 0, scene 0 and not valid where the fabric has no current scene. `count` is at most 255,
+ * `remaining` at most SCENES_MAX_REMAINING. A fabric without scenes on the endpoint and without a current scene on any has no row: status 0,
+ * `present` false, and 0 or false in the rest, as in a refusal. */
 struct scenes_info_read {
     struct scenes_state state;
     uint8_t status;

@@ -58,6 +58,15 @@ fn recalled<'a>(line: &'a str, words: &[&'a str]) -> Vec<&'a str> {
     answer
 }
 
+/// The Rust's remaining capacity, if the answer has one, becomes the smaller of it and 253 (document 02, Q-4).
+fn report(remaining: Option<&mut &str>) {
+    if let Some(word) = remaining {
+        if word.parse().is_ok_and(|number: u64| 253 < number) {
+            *word = "253";
+        }
+    }
+}
+
 /// The oracle's answer as our program writes it.
 pub fn our_answer(line: &str, answer: &str) -> String {
     let mut words: Vec<&str> = answer.split(' ').collect();
@@ -70,7 +79,9 @@ pub fn our_answer(line: &str, answer: &str) -> String {
             words.retain(|word| *word != "UNREADABLE" && *word != "NOSET");
             words = recalled(line, &words);
         }
+        "I" => report(words.get_mut(10)),
         "M" => {
+            report(words.get_mut(6));
             if words.last() == Some(&"-") {
                 words.pop();
             }

@@ -171,6 +171,11 @@ const LARGE_CALLS: &[(char, usize)] = &[
     ('F', 1),
 ];
 
+#[rustfmt::skip]
+const CAPPED_CALLS: &[(char, usize)] = &[
+    ('A', 4), ('S', 4), ('R', 4), ('X', 1), ('C', 3), ('L', 1), ('M', 9), ('I', 16), ('F', 1),
+];
+
 fn weighted(random: &mut Random, letters: &[(char, usize)]) -> char {
     let mut at = random.below(letters.iter().map(|(_, weight)| weight).sum());
     for (letter, weight) in letters {
@@ -348,6 +353,30 @@ fn large_grown(random: &mut Random) -> Vec<String> {
     script
 }
 
+/// A table where a fabric's remaining capacity, by its share or by the free places, or its count on an endpoint is
+/// about 253 and 255, and calls that move it up and down.
+fn capped(random: &mut Random) -> Vec<String> {
+    let size = random.pick(&sizes::CAPPED);
+    let mut script = vec![format!("N {size}")];
+    if random.percent(50) {
+        // Others' entries leave about 253 places free, and fabric 2 has about as many entries on endpoint 1.
+        let (others, counted) = (size - 250 - random.below(8), 251 + random.below(6));
+        for i in 0..others {
+            let (fabric, group, scene) = (if i < counted { 2 } else { 3 }, 1 + i / 120, 1 + i % 120);
+            script.push(format!("e {fabric} 1 {group} {scene} {} -", raw_time(random)));
+        }
+    }
+    let mut u = large_universe(random);
+    u.fabrics = vec![1, 2];
+    for scene in 0..random.below(8) {
+        script.push(format!("S 1 1 1 {} 1 -", u.scenes[scene]));
+    }
+    for _ in 0..20 {
+        script.push(call(random, &mut u, CAPPED_CALLS));
+    }
+    script
+}
+
 /// Keys of an image: now and then one is there twice, or is one that no command may name.
 fn image_keys(random: &mut Random, u: &Universe, count: usize) -> Vec<Key> {
     let repeats = random.percent(12);
@@ -429,11 +458,12 @@ pub fn images(seed: u64, index: u64) -> Vec<String> {
 pub fn script(seed: u64, index: u64) -> Vec<String> {
     let mut random = Random::new(seed, index);
     match random.below(1000) {
-        0..700 => small(&mut random),
-        700..740 => crowded(&mut random),
-        740..780 => large_raw(&mut random),
-        780..790 => large_grown(&mut random),
-        790..799 => imaged(&mut random, &sizes::LARGE, 5),
+        0..680 => small(&mut random),
+        680..720 => crowded(&mut random),
+        720..760 => large_raw(&mut random),
+        760..770 => large_grown(&mut random),
+        770..779 => imaged(&mut random, &sizes::LARGE, 5),
+        779..879 => capped(&mut random),
         _ => imaged(&mut random, &sizes::SMALL, 20),
     }
 }

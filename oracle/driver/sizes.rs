@@ -7,8 +7,12 @@ pub const SMALL: [usize; 38] = [
     32, 33, 64, 128,
 ];
 
-/// From 513 on a share is above 255, so that the cap on the remaining capacity tells.
-pub const LARGE: [usize; 27] = [
-    200, 255, 255, 255, 256, 256, 256, 257, 300, 508, 508, 509, 509, 510, 511, 512, 512, 513, 513, 513, 514, 768, 1000,
-    1023, 1024, 1024, 1024,
+/// From 509 on a share is above 253, and from 513 on above 255, the caps on the remaining capacity of our program and of
+/// the Rust.
+pub const LARGE: [usize; 30] = [
+    200, 255, 255, 255, 256, 256, 256, 257, 300, 506, 507, 508, 508, 509, 509, 510, 511, 512, 512, 513, 513, 513, 514,
+    515, 768, 1000, 1023, 1024, 1024, 1024,
 ];
+
+/// Around both caps: with few entries a fabric's remaining capacity passes them one by one.
+pub const CAPPED: [usize; 9] = [507, 508, 509, 510, 511, 512, 513, 514, 515];

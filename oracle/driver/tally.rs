@@ -157,6 +157,10 @@ pub const ANSWERS: &[(&str, &str)] = &[
 
 const LENGTHS: [usize; 7] = [0, 1, 126, 127, 128, 129, 200];
 
+/// The numbers that are cut: the letter of the call, the word of its answer, what it is. Those from here on are counted.
+const CUT: [(&str, usize, &str); 3] = [("M", 6, "M remaining"), ("I", 10, "I remaining"), ("I", 6, "I count")];
+const ABOUT: std::ops::RangeInclusive<u64> = 251..=255;
+
 #[derive(Default)]
 pub struct Tally {
     pub scripts: u64,
@@ -165,6 +169,7 @@ pub struct Tally {
     answers: BTreeMap<(&'static str, String), u64>,
     by_size: BTreeMap<usize, u64>,
     lengths: BTreeMap<(char, usize), u64>,
+    cut: BTreeMap<(&'static str, u64), u64>,
     others: BTreeMap<&'static str, u64>,
     size: usize,
     raw: bool,
@@ -190,6 +195,7 @@ impl Tally {
         *self.answers.entry(answer_of(call, self.size)).or_default() += 1;
         *self.by_size.entry(self.size).or_default() += 1;
         self.count_lengths(call);
+        self.count_cut(call);
         self.count_others(call);
     }
 
@@ -204,6 +210,15 @@ impl Tally {
         let length = if word == "-" { 0 } else { word.len() / 2 };
         if LENGTHS.contains(&length) {
             *self.lengths.entry((letter, length)).or_default() += 1;
+        }
+    }
+
+    /// Numbers of the Rust about 253 and 255, where they are cut.
+    fn count_cut(&mut self, call: &Call<'_>) {
+        for (_, at, what) in CUT.iter().filter(|cut| cut.0 == call.letter()) {
+            if let Some(number) = call.said(*at).parse().ok().filter(|number| ABOUT.contains(number)) {
+                *self.cut.entry((what, number)).or_default() += 1;
+            }
         }
     }
 
@@ -242,7 +257,11 @@ impl Tally {
         let met =
             |(letter, answer): &(&'static str, &str)| *self.answers.get(&(*letter, answer.to_string())).unwrap_or(&0);
         let few = ANSWERS.iter().filter(|answer| met(answer) < wanted);
-        few.map(|answer| format!("{} {}: {}", answer.0, answer.1, met(answer))).collect()
+        let answers = few.map(|answer| format!("{} {}: {}", answer.0, answer.1, met(answer)));
+        let cut = CUT.iter().flat_map(|&(_, _, what)| ABOUT.map(move |number| (what, number)));
+        let met = |number: &(&'static str, u64)| *self.cut.get(number).unwrap_or(&0);
+        let few = cut.filter(|number| met(number) < wanted);
+        answers.chain(few.map(|number| format!("{} {}: {}", number.0, number.1, met(&number)))).collect()
     }
 
     pub fn print(&self) {
@@ -260,6 +279,10 @@ impl Tally {
         println!("adds (A) and stores (S) by length of the bytes they bring");
         for ((letter, length), count) in &self.lengths {
             println!("  {letter} {length:<28} {count:>9}");
+        }
+        println!("the Rust's remaining capacities and info's counts, about 253 and 255");
+        for ((what, number), count) in &self.cut {
+            println!("  {what:<11} {number:<18} {count:>9}");
         }
         println!("further counts");
         for (what, count) in &self.others {

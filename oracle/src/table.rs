@@ -559,5 +559,5 @@ macro_rules! sizes {
 // In the Rust the size is a constant of the type: each is compiled for itself. ../driver/sizes.rs has the same list.
 sizes!(
     0 1 2 3 4 5 6 7 8 9 10 11 12 15 16 17 18 24 31 32 33 64 128 200 255 256 257 300
-    508 509 510 511 512 513 514 768 1000 1023 1024
+    506 507 508 509 510 511 512 513 514 515 768 1000 1023 1024
 );

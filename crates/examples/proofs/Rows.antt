@@ -29,7 +29,7 @@ use Rattle.examples.specs.Rows.{Row, Holds, EveryRow, rows, Naming, byAd
 
 abbrev capacityRows : List Row
 capacityRows =
-    capacity 0 0 0 ∷ capacity 1 0 0 ∷ capacity 2 0 0 ∷ capacity 3 0 1 ∷ capacity 16 6 1 ∷ capacity 16 7 0 ∷ capacity 1024 0 255 ∷ []
+    capacity 0 0 0 ∷ capacity 1 0 0 ∷ capacity 2 0 0 ∷ capacity 3 0 1 ∷ capacity 16 6 1 ∷ capacity 16 7 0 ∷ capacity 1024 0 253 ∷ []
 
 capacities : EveryRow capacityRows
 unfolding remaining roomFor countKeys countBelow within

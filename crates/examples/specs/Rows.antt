@@ -1,4 +1,5 @@
--- Document 01, "Boxes on paper": the rows marked P, as one table. Fabric 1, endpoint 1, group 0, N 16 and membership yes unless said.
+-- Document 01, "Boxes on paper": the rows marked P, as one table, with the capacity row for N 1,024 of document 02, Q-4. Fabric 1,
+-- endpoint 1, group 0, N 16 and membership yes unless said.
 use Prim.Native.Nat.{ℕ}
 use mathlib.Core.Path.{_≡_}
 use mathlib.Core.Bool.{cond}
@@ -183,7 +184,7 @@ rows =
     ∷ capacity 3 0 1
     ∷ capacity 16 6 1
     ∷ capacity 16 7 0
-    ∷ capacity 1024 0 255
+    ∷ capacity 1024 0 253
     ∷ longest
     ∷ tooLong
     ∷ passing 1

@@ -41,7 +41,7 @@ pub struct FieldBytes {
 pub struct Interface;
 
 impl Interface {
-    pub const VERSION: u32 = 5;
+    pub const VERSION: u32 = 6;
 }
 
 // Whether the host applied a recalled scene: 1 is yes, any other number is no.

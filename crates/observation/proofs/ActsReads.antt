@@ -8,7 +8,7 @@ use lib.Dec.{eqb, ltb}
 use lib.ListN.{length, getD, drop}
 use lib.Seq.{take-append-seam}
 use borrow.Author.Tests.{lt-ltb}
-use Rattle.words.specs.Constants.{success, bufferTooShort, applyFailed, maxShown}
+use Rattle.words.specs.Constants.{success, bufferTooShort, applyFailed, maxRemaining}
 use Rattle.words.specs.Words.{wordOf, validRecord, sceneOf, within, fabricKeys, endpointKeys, groupKeys}
 use Rattle.words.specs.Below.{positions}
 use Rattle.words.specs.declared.Found.{Found}
@@ -38,7 +38,7 @@ use Rattle.observation.specs.Equivalence.{keyIs, mine}
 use Rattle.observation.proofs.Lists.{found, has}
 use Rattle.observation.proofs.Lookups.{holds, foundAt}
 use Rattle.observation.proofs.Changes.{viewOf, roomIn, remembered}
-use Rattle.observation.proofs.Effects.{gateOf, refuse, shown, viewed, applied, recalled, idsIn, row, infoOut}
+use Rattle.observation.proofs.Effects.{gateOf, refuse, shown, viewed, applied, recalled, idsIn, remainingIn, row, infoOut}
 use Rattle.observation.proofs.Counts.{count-ext, keep-map}
 use Rattle.observation.proofs.Positions.{keep-positions}
 use Rattle.observation.proofs.Views.{entries-find, entries-count, entries-length, records-find}
@@ -88,9 +88,9 @@ module _ (f : ℕ) (t : Table) where
       let used = entries-count t (fabricKeys f) ∙ count-ext (holds (fabricKeys f)) (mine f) (λ x. fabric-keys f (x .key)) (entriesIn t) in
       ap₂ (λ (n k : ℕ). min ((t .state .size - 1) / 2 - n) (t .state .size - k)) used (sym (entries-length t))
 
-  left : remaining (t .state) (t .slots .keys) f ≡ min (roomIn f (viewOf t)) maxShown
+  left : remaining (t .state) (t .slots .keys) f ≡ remainingIn f (viewOf t)
   unfolding remaining
-  left = ap (λ (n : ℕ). min n maxShown) room
+  left = ap (λ (n : ℕ). min n maxRemaining) room
 
 module _ (t : Table) where
   ids-of : (f e g : ℕ) → sceneIds (groupKey f e g) t ≡ idsIn f e g (viewOf t)
@@ -156,11 +156,11 @@ module _ (f e : ℕ) (t : Table) (sd : sound t ≡ true) (hf : f < 2 ^ 8) (he : 
   pub membership-acts : (g : ℕ) (m : Membership) (buffer : List ℕ) → gateOf f e (membership g m buffer) ≡ success
       → Acts (step (command f e (membership g m buffer)) t)
       (cond (ltb (length buffer) (length (idsIn f e g (viewOf t)))) (refuse bufferTooShort, viewOf t)
-      (record { status = success; save = false; values = min (roomIn f (viewOf t)) maxShown ∷ []; ids = idsIn f e g (viewOf t) }, viewOf t))
+      (record { status = success; save = false; values = remainingIn f (viewOf t) ∷ []; ids = idsIn f e g (viewOf t) }, viewOf t))
   unfolding step does getSceneMembership
   membership-acts g m buffer p =
       acts-passed (unlisted buffer t) t sd _ _ (λ l. ofList l t) _ p
-      (rw (ids-of t f e g, left f t) (lists t sd (idsIn f e g (viewOf t)) (min (roomIn f (viewOf t)) maxShown) buffer))
+      (rw (ids-of t f e g, left f t) (lists t sd (idsIn f e g (viewOf t)) (remainingIn f (viewOf t)) buffer))
 
   pub info-acts : (single : Bool) → gateOf f e (info single) ≡ success → Acts (step (command f e (info single)) t) (infoOut f e (viewOf t), viewOf t)
   unfolding step does readFabricSceneInfo viewOf

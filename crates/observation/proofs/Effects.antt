@@ -6,7 +6,7 @@ use mathlib.Core.List.{List, [], _∷_, map}
 use mathlib.Core.Option.{Option, none, some}
 use lib.Dec.{eqb}
 use lib.ListN.{length}
-use Rattle.words.specs.Constants.{success, insufficientSpace, notFound, applyFailed, badImage, clashingImage, maxFields, maxShown}
+use Rattle.words.specs.Constants.{success, insufficientSpace, notFound, applyFailed, badImage, clashingImage, maxFields, maxShown, maxRemaining}
 use Rattle.words.specs.Words.{wordOf, groupOf, sceneOf, keyOfRecord, isValid, endpointKeys, groupKeys}
 use Rattle.words.specs.declared.SceneKey.{SceneKey}
 use Rattle.slots.specs.Slots.{SceneEntry}
@@ -111,6 +111,9 @@ copyOut f scope (x ∷ xs) v = copied scope (writtenAll f (x ∷ xs) v)
 abbrev pub idsIn : ℕ → ℕ → ℕ → View → List ℕ
 idsIn f e g v = map (λ x. sceneOf (x .key)) (keep (holds (groupKeys f e g)) (v .entries))
 
+abbrev pub remainingIn : ℕ → View → ℕ
+remainingIn f v = min (roomIn f v) maxRemaining
+
 -- count, the record's group, scene and whether valid, or 0, 0 and no without one, remaining, fabric
 abbrev pub row : ℕ → ℕ → ℕ → Option ℕ → List ℕ
 row n left f none = min n maxShown ∷ 0 ∷ 0 ∷ 0 ∷ left ∷ f ∷ []
@@ -119,7 +122,7 @@ row n left f (some w) = min n maxShown ∷ groupOf (keyOfRecord w) ∷ sceneOf (
 abbrev pub infoOut : ℕ → ℕ → View → Answer
 infoOut f e v =
     let n : ℕ = count (holds (endpointKeys f e)) (v .entries) in
-    cond (eqb n 0 && not (found (currentIn f v))) (shown []) (shown (row n (min (roomIn f v) maxShown) f (currentIn f v)))
+    cond (eqb n 0 && not (found (currentIn f v))) (shown []) (shown (row n (remainingIn f v) f (currentIn f v)))
 
 -- ---- an image
 

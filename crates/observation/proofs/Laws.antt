@@ -1,12 +1,12 @@
 -- What each call does, over the view of a sound table: the laws on which the equivalence rests, as statements. `sees` is what a call
 -- answers and leaves to be seen. Assumes nothing: this is a list of statements.
-use Prim.Native.Nat.{ℕ, _^_, _<_, min}
+use Prim.Native.Nat.{ℕ, _^_, _<_}
 use mathlib.Core.Path.{_≡_}
 use mathlib.Core.Bool.{Bool, true, false, cond, not, _&&_, _||_}
 use mathlib.Core.List.{List, [], _∷_, _++_, map}
 use lib.Dec.{eqb, ltb}
 use lib.ListN.{length}
-use Rattle.words.specs.Constants.{success, insufficientSpace, notFound, noFabric, bufferTooShort, maxShown, endOfContainer}
+use Rattle.words.specs.Constants.{success, insufficientSpace, notFound, noFabric, bufferTooShort, endOfContainer}
 use Rattle.words.specs.Words.{wordOf, groupKeys}
 use Rattle.records.specs.declared.Scope.the-variants.{Scene, Group, Endpoint}
 use Rattle.requests.specs.declared.Membership.{Membership}
@@ -20,7 +20,7 @@ use Rattle.observation.specs.Equivalence.{keyIs, mine, ofFabric}
 use Rattle.observation.proofs.Lists.{has, takeOut}
 use Rattle.observation.proofs.Lookups.{holds, entryOf}
 use Rattle.observation.proofs.Changes.{View, viewOf, roomIn, placeFor, stepped, entriesSet, written, invalidated, remembered}
-use Rattle.observation.proofs.Effects.{sees, refuse, done, gateOf, timeOf, viewed, applied, recalled, addOut, sources, target, scopeOf, copyOut, idsIn, infoOut, started, loaded}
+use Rattle.observation.proofs.Effects.{sees, refuse, done, gateOf, timeOf, viewed, applied, recalled, addOut, sources, target, scopeOf, copyOut, idsIn, remainingIn, infoOut, started, loaded}
 
 -- the laws of one fabric's commands on one endpoint, of one sound table whose view is v
 pub record CommandLaws (f e : ℕ) (t : Table) (v : View) : Type 0 where
@@ -63,7 +63,7 @@ pub record CommandLaws (f e : ℕ) (t : Table) (v : View) : Type 0 where
   pub membership-acts : (g : ℕ) (m : Membership) (buffer : List ℕ) → CommandInRange (membership g m buffer) → gateOf f e (membership g m buffer) ≡ 0
       → sees (command f e (membership g m buffer)) t
       ≡ cond (ltb (length buffer) (length (idsIn f e g v))) (refuse bufferTooShort, v)
-      (record { status = success; save = false; values = min (roomIn f v) maxShown ∷ []; ids = idsIn f e g v }, v)
+      (record { status = success; save = false; values = remainingIn f v ∷ []; ids = idsIn f e g v }, v)
   pub info-acts : (single : Bool) → gateOf f e (info single) ≡ 0 → sees (command f e (info single)) t ≡ (infoOut f e v, v)
 
 -- the laws of the other calls, of one sound table whose view is v

@@ -1,5 +1,5 @@
 -- What tells two views apart: what view and info answer of them, and a key that no entry has. Assumes nothing.
-use Prim.Native.Nat.{ℕ, zero, suc, _+_, _^_, _≤_, _<_, min}
+use Prim.Native.Nat.{ℕ, zero, suc, _+_, _^_, _≤_, _<_}
 use native.Mathlib.Omega.{arith}
 use mathlib.Core.Path.{_≡_, refl, sym, ap, _∙_, subst}
 use mathlib.Core.Bool.{Bool, true, false, cond, not, _&&_, _||_, false≢true}
@@ -8,7 +8,7 @@ use mathlib.Core.Option.{Option, none, some}
 use lib.ListN.{length, getD}
 use lib.Dec.{ltb, eqb}
 use borrow.Author.Tests.{eqb-true, eqb-false, eq-eqb, ne-eqb}
-use Rattle.words.specs.Constants.{maxFields, maxShown}
+use Rattle.words.specs.Constants.{maxFields}
 use Rattle.words.specs.Words.{wordOf, fabricOf, endpointOf, groupOf, sceneOf, keyOfRecord, isValid, endpointKeys}
 use Rattle.words.proofs.Tests.{and-false}
 use Rattle.slots.specs.Slots.{SceneEntry}
@@ -18,8 +18,8 @@ use Rattle.observation.specs.Calls.{Answer, sceneKey}
 use Rattle.observation.specs.Equivalence.{keyIs, Same, mine, ofFabric}
 use Rattle.observation.proofs.Lists.{found, takeOut}
 use Rattle.observation.proofs.Lookups.{holds}
-use Rattle.observation.proofs.Changes.{View, currentIn, roomIn}
-use Rattle.observation.proofs.Effects.{viewed, shown, row, infoOut}
+use Rattle.observation.proofs.Changes.{View, currentIn}
+use Rattle.observation.proofs.Effects.{viewed, shown, remainingIn, row, infoOut}
 use Rattle.observation.proofs.Counts.{count-ext, count-le, opt, count-takeOut, count-keep, length-count, find-passes, find-counts, find-none, none-find}
 use Rattle.observation.proofs.Choices.{cond-elim, or-none, bit-zero}
 use Rattle.observation.proofs.Bits.{rebuilt}
@@ -160,9 +160,9 @@ module _ (f e : ℕ) (v : View) where
   info-at : (i : ℕ) (part : ℕ → ℕ) → ((m left : ℕ) (o : Option ℕ) → getD (row m left f o) i 0 ≡ told part o) → getD (infoOut f e v .values) i 0 ≡ told part (currentIn f v)
   info-at i part h = go (currentIn f v)
     where
-      go : (o : Option ℕ) → getD (cond (eqb n 0 && not (found o)) (shown []) (shown (row n (min (roomIn f v) maxShown) f o)) .values) i 0 ≡ told part o
-      go none = cond-elim (λ (a : Answer). getD (a .values) i 0 ≡ 0) (eqb n 0 && true) (λ _. refl) (λ _. h n (min (roomIn f v) maxShown) none)
-      go (some w) = rw (and-false (eqb n 0)) (h n (min (roomIn f v) maxShown) (some w))
+      go : (o : Option ℕ) → getD (cond (eqb n 0 && not (found o)) (shown []) (shown (row n (remainingIn f v) f o)) .values) i 0 ≡ told part o
+      go none = cond-elim (λ (a : Answer). getD (a .values) i 0 ≡ 0) (eqb n 0 && true) (λ _. refl) (λ _. h n (remainingIn f v) none)
+      go (some w) = rw (and-false (eqb n 0)) (h n (remainingIn f v) (some w))
 
   pub info-group : getD (infoOut f e v .values) 1 0 ≡ told (λ w. groupOf (keyOfRecord w)) (currentIn f v)
   info-group = info-at 1 (λ w. groupOf (keyOfRecord w)) (λ m left o. elim o [ none ↦ refl | some w ↦ refl ])

@@ -1,13 +1,13 @@
 -- The theorems say what they should: tables that differ and are equivalent for a fabric, tables that are not, and for each nearby
 -- reading of the four matters, of the runs, or of what a refusal leaves, a counterexample. Assumes nothing.
-use Prim.Native.Nat.{ℕ, _+_, _*_, _^_, _<_}
+use Prim.Native.Nat.{ℕ, _+_, _*_, _^_, _<_, min}
 use native.Mathlib.Omega.{arith}
 use mathlib.Core.Path.{_≡_, refl, ap}
 use mathlib.Core.Bool.{true}
 use mathlib.Core.List.{List, [], _∷_, List·Permᴰ, List·Permᴰ·nil, List·Permᴰ·swap}
 use mathlib.Core.Option.{Option, none, Option·map, Option·some-injective}
 use lib.ListN.{replicate}
-use Rattle.words.specs.Constants.{stride, success}
+use Rattle.words.specs.Constants.{stride, success, maxRemaining}
 use Rattle.words.specs.Words.{keyOf, endpointOf, keyOfRecord}
 use Rattle.requests.specs.declared.Membership.the-variants.{Yes}
 use Rattle.state.specs.Table.{Table, tableOf, newState, emptyTable, entriesIn, withEntryCount}
@@ -66,6 +66,13 @@ recordedOnly = next (removes 2 1 3) (next (stores 2 1 3) (emptyTable 1))
 abbrev oneTaken : Table
 oneTaken = next (adds 2 1 3) (emptyTable 2)
 
+-- another fabric takes one of 255 places: more than 253 are free before and after
+abbrev roomy : Table
+roomy = emptyTable 255
+
+abbrev roomyTaken : Table
+roomyTaken = next (adds 2 1 3) roomy
+
 -- two scenes in either order
 abbrev two : ℕ → ℕ → Table
 two a b = next (adds 1 1 b) (next (adds 1 1 a) (emptyTable 2))
@@ -84,9 +91,9 @@ repeated a b =
 empty-reached : (n : ℕ) → sound (emptyTable n) ≡ true → Reached (emptyTable n)
 empty-reached n s = empty (emptyTable n) s refl refl
 
-empty-sound : (sound (emptyTable 1) ≡ true) × (sound (emptyTable 2) ≡ true) × (sound (emptyTable 7) ≡ true)
+empty-sound : (sound (emptyTable 1) ≡ true) × (sound (emptyTable 2) ≡ true) × (sound (emptyTable 7) ≡ true) × (sound roomy ≡ true)
 unfolding soundness
-empty-sound = (refl, refl, refl)
+empty-sound = (refl, refl, refl, refl)
 
 one-reached : Reached (emptyTable 1)
 one-reached = empty-reached 1 (empty-sound .0)
@@ -120,6 +127,12 @@ only-reached = removing 2 1 3 (omega arith) (omega arith) (omega arith) recorded
 
 taken-reached : Reached oneTaken
 taken-reached = added 2 1 0 3 (omega arith) (omega arith) (omega arith) (omega arith) two-reached
+
+roomy-reached : Reached roomy
+roomy-reached = empty-reached 255 (empty-sound .3)
+
+roomy-taken-reached : Reached roomyTaken
+roomy-taken-reached = added 2 1 0 3 (omega arith) (omega arith) (omega arith) (omega arith) roomy-reached
 
 both-reached : (a b : ℕ) → a < 2 ^ 8 → b < 2 ^ 8 → Reached (two a b)
 both-reached a b ha hb = added 1 1 0 b (omega arith) (omega arith) (omega arith) hb (added 1 1 0 a (omega arith) (omega arith) (omega arith) ha two-reached)
@@ -159,8 +172,9 @@ sizes :
     × (emptyTable 2 .state .size ≡ oneTaken .state .size)
     × (two 7 8 .state .size ≡ two 8 7 .state .size)
     × (grouped 1 2 .state .size ≡ grouped 2 1 .state .size)
+    × (roomy .state .size ≡ roomyTaken .state .size)
 unfolding running
-sizes = (refl, refl, refl, refl, refl, refl, refl)
+sizes = (refl, refl, refl, refl, refl, refl, refl, refl)
 
 -- ---- where they differ
 
@@ -204,6 +218,16 @@ places-differ e = omega arith
 places-else : List·Permᴰ (scenesOf 1 (emptyTable 2)) (scenesOf 1 oneTaken) × (Option·map seen (currentOf 1 (emptyTable 2)) ≡ Option·map seen (currentOf 1 oneTaken)) × (recordFits (emptyTable 2) ≡ recordFits oneTaken)
 unfolding running
 places-else = (List·Permᴰ·nil, refl, refl)
+
+roomy-differ : free roomy ≡ free roomyTaken → ⊥
+unfolding running
+roomy-differ e = omega arith
+
+roomy-else :
+    (min (free roomy) maxRemaining ≡ min (free roomyTaken) maxRemaining) × List·Permᴰ (scenesOf 1 roomy) (scenesOf 1 roomyTaken)
+    × (Option·map seen (currentOf 1 roomy) ≡ Option·map seen (currentOf 1 roomyTaken)) × (recordFits roomy ≡ recordFits roomyTaken)
+unfolding running
+roomy-else = (refl, List·Permᴰ·nil, refl, refl)
 
 -- membership lists the two scenes in their order
 abbrev listing : Call
@@ -283,6 +307,14 @@ pub places-not-out :
     × (Equivalent 1 (emptyTable 2) oneTaken → ⊥)
 places-not-out =
     (places-else .0, places-else .1, places-else .2, (λ e. places-differ (told (emptyTable 2) oneTaken two-reached taken-reached (sizes .4) e .places)))
+
+-- "free places are cut as a remaining capacity is": more than 253 of them are told apart
+pub places-not-cut :
+    (min (free roomy) maxRemaining ≡ min (free roomyTaken) maxRemaining) × List·Permᴰ (scenesOf 1 roomy) (scenesOf 1 roomyTaken)
+    × (Option·map seen (currentOf 1 roomy) ≡ Option·map seen (currentOf 1 roomyTaken)) × (recordFits roomy ≡ recordFits roomyTaken)
+    × (Equivalent 1 roomy roomyTaken → ⊥)
+places-not-cut =
+    (roomy-else .0, roomy-else .1, roomy-else .2, roomy-else .3, (λ e. roomy-differ (told roomy roomyTaken roomy-reached roomy-taken-reached (sizes .7) e .places)))
 
 -- "scene lists compare in order": two tables are equivalent and list their scenes in another order
 pub lists-not-in-order : Equivalent 1 (two 7 8) (two 8 7) × (answer listing (two 7 8) .ids ≡ answer listing (two 8 7) .ids → ⊥)

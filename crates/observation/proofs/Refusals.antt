@@ -1,6 +1,6 @@
 -- Every refusal is its number and nothing else, what a whole-group copy that ran out midway leaves, and that 11 is decided by the inputs
 -- alone. Assumes nothing.
-use Prim.Native.Nat.{ℕ, zero, suc, min}
+use Prim.Native.Nat.{ℕ, zero, suc}
 use mathlib.Core.Path.{_≡_, refl, sym, ap, _∙_}
 use mathlib.Core.Bool.{Bool, true, false, _&&_}
 use mathlib.Core.List.{List, [], _∷_}
@@ -8,7 +8,7 @@ use native.Mathlib.Omega.{arith}
 use lib.Dec.{eqb, ltb}
 use lib.ListN.{length, getD}
 use borrow.Author.Tests.{lt-ltb, ne-eqb, eqb-true, eqb-false}
-use Rattle.words.specs.Constants.{success, notFound, insufficientSpace, badFieldSets, maxShown, maxFields}
+use Rattle.words.specs.Constants.{success, notFound, insufficientSpace, badFieldSets, maxFields}
 use Rattle.words.specs.Words.{wordOf, groupKeys}
 use Rattle.words.specs.declared.Found.{Found}
 use Rattle.words.specs.declared.Found.the-variants.{At, Nothing}
@@ -31,6 +31,7 @@ use Rattle.state.specs.Sound.{sound}
 use Rattle.state.specs.Capacity.{mayAppend, roomFor, remaining}
 use Rattle.state.specs.Change.{saved, findScene, Upserted, upsertAt, upsert, retainOutside}
 use Rattle.state.specs.Answer.{Result, resultOf, refused, refusalOf, guarded}
+use Rattle.state.proofs.Capacity.{by-cap}
 use Rattle.commands.specs.Commands.{addScene, stored, storeCaptured, storeScene, removeFound, removeScene, removedAll, removeAllScenes, recallFound, recallScene}
 use Rattle.copies.specs.Copy.{Copied, copiedOf, copyTo, copyEntry, copyFound, copySingle, isSource, keyIn, copyWalk, sourceGroup, targetGroup, sourceKey, targetKey, copySources, copied, copyScenesInner, copyScene}
 use Rattle.reads.specs.Reads.{unread, readAt, recallLookup, viewScene, Listed, unlisted, sceneIds, listIds, getSceneMembership, noRow, infoRow, readFabricSceneInfo}
@@ -175,8 +176,10 @@ module _ (c : CopyRequest) (t : Table) where
   ranOut n = wholeGroup (c .mode) && ltb 0 (remaining (t .state) (t .slots .keys) (c .fabric)) && eqb n insufficientSpace
 
   has-remaining : (roomFor (t .state) (t .slots .keys) (c .fabric) ≡ 0 → ⊥) → ltb 0 (remaining (t .state) (t .slots .keys) (c .fabric)) ≡ true
-  unfolding remaining
-  has-remaining h = lt-ltb 0 (min (roomFor (t .state) (t .slots .keys) (c .fabric)) maxShown) (omega arith)
+  has-remaining h =
+      let left = remaining (t .state) (t .slots .keys) (c .fabric) in
+      let some : left ≡ 0 → ⊥ = λ z. h (by-cap .none-left (t .state) (t .slots .keys) (c .fabric) .0 z) in
+      lt-ltb 0 left (omega arith)
 
   copied-status : (o : Copied) → copied c t o .status ≡ o .status
   unfolding copied

@@ -9,7 +9,7 @@ use mathlib.Core.Option.{Option, none, some, Option·map, Option·none-ne-some, 
 use lib.ListN.{length, length-append}
 use lib.Dec.{ltb, eqb}
 use borrow.Author.Tests.{eq-eqb, not-false}
-use Rattle.words.specs.Constants.{success, insufficientSpace, notFound, bufferTooShort, maxFields, maxShown, endOfContainer}
+use Rattle.words.specs.Constants.{success, insufficientSpace, notFound, bufferTooShort, maxFields, maxShown, maxRemaining, endOfContainer}
 use Rattle.words.specs.Words.{wordOf, fabricOf, sceneOf, endpointKeys, groupKeys}
 use Rattle.words.proofs.Tests.{and-left}
 use Rattle.words.proofs.Ranges.{endpoint-keys, group-keys}
@@ -24,7 +24,7 @@ use Rattle.observation.specs.Equivalence.{keyIs, Same, wholeCopy, mine, 
 use Rattle.observation.proofs.Lists.{found, has, takeOut, Often}
 use Rattle.observation.proofs.Lookups.{holds, entryOf}
 use Rattle.observation.proofs.Changes.{View, usedIn, roomIn, currentIn, placeFor, entriesSet, written, invalidated, remembered}
-use Rattle.observation.proofs.Effects.{Seen, refuse, done, shown, gateOf, timeOf, viewed, applied, recalled, addOut, idsIn, row, infoOut}
+use Rattle.observation.proofs.Effects.{Seen, refuse, done, shown, gateOf, timeOf, viewed, applied, recalled, addOut, idsIn, remainingIn, row, infoOut}
 use Rattle.observation.proofs.Counts.{count-keep, count-map, length-count, count-le, find-put}
 use Rattle.observation.proofs.Choices.{cond-elim, cond-two, has-same, count-has, less-takeOut, less-keep}
 use Rattle.observation.proofs.Bits.{key-fabric}
@@ -77,6 +77,9 @@ row-seen f p q (some u) none e = absurd (Option·some-ne-none (seen u) e)
 row-seen f p q (some u) (some w) e =
     let r = Option·some-injective (seen u) (seen w) e in
     λ i. min (p i) maxShown ∷ r i .group ∷ r i .scene ∷ bit (r i .valid) ∷ q i ∷ f ∷ []
+
+sim-remaining : (f : ℕ) (v w : View) → Sim f v w → remainingIn f v ≡ remainingIn f w
+sim-remaining f v w a = ap (λ (n : ℕ). min n maxRemaining) (sim-room f v w a)
 
 -- ---- membership's list
 
@@ -214,7 +217,7 @@ module _ (f e : ℕ) (hf : f < 2 ^ 8) (he : e < 2 ^ 16) where
   pub membership-responds : (g : ℕ) (m : Membership) (buffer : List ℕ) → CommandInRange (membership g m buffer)
       → Responds f (membership g m buffer) (λ v.
       cond (ltb (length buffer) (length (idsIn f e g v))) (refuse bufferTooShort, v)
-      (record { status = success; save = false; values = min (roomIn f v) maxShown ∷ []; ids = idsIn f e g v }, v))
+      (record { status = success; save = false; values = remainingIn f v ∷ []; ids = idsIn f e g v }, v))
   membership-responds g m buffer hc = record {
     alike = λ v w i j a.
         let often = ids-often f e g he (hc .0) v w a in
@@ -222,7 +225,7 @@ module _ (f e : ℕ) (hf : f < 2 ^ 8) (he : e < 2 ^ 16) where
         cond-two (Kept f (membership g m buffer)) (ltb (length buffer) (length (idsIn f e g v))) (ltb (length buffer) (length (idsIn f e g w))) (ap (ltb (length buffer)) len)
         (λ _ _. kept refl a)
         (λ _ _. record {
-          same = record { status = refl; save = refl; values = ap (λ (n : ℕ). min n maxShown ∷ []) (sim-room f v w a); ids = ids-perm (idsIn f e g v) (idsIn f e g w) often };
+          same = record { status = refl; save = refl; values = ap (λ (n : ℕ). n ∷ []) (sim-remaining f v w a); ids = ids-perm (idsIn f e g v) (idsIn f e g w) often };
           onward = λ _. a;
         });
     leaves = λ v i. cond-elim (λ (o : Seen). Inv (o .1)) (ltb (length buffer) (length (idsIn f e g v))) (λ _. i) (λ _. i);
@@ -232,7 +235,7 @@ module _ (f e : ℕ) (hf : f < 2 ^ 8) (he : e < 2 ^ 16) where
   info-responds single = record {
     alike = λ v w i j a.
         let n : count (holds (endpointKeys f e)) (v .entries) ≡ count (holds (endpointKeys f e)) (w .entries) = a .scenes (holds (endpointKeys f e)) (endpoint-within f e he) in
-        let r = row-seen f n (ap (λ (m : ℕ). min m maxShown) (sim-room f v w a)) (currentIn f v) (currentIn f w) (a .recorded) in
+        let r = row-seen f n (sim-remaining f v w a) (currentIn f v) (currentIn f w) (a .recorded) in
         let c = sim-found f v w a in
         kept (λ z. cond (eqb (n z) 0 && not (c z)) (shown []) (shown (r z))) a;
     leaves = λ v i. i;

@@ -74,7 +74,7 @@ impl ScenesState {
         false
     }
 
-    // How many scenes a fabric may still copy, before that is cut to a byte. A full table has room for none, whatever the fabric uses.
+    // How many scenes a fabric may still copy, before that is cut. A full table has room for none, whatever the fabric uses.
     pub fn room_for_fab(self, keys: &[u64], fabric: u8) -> usize
         requires { ⌜ self .entries ≤ length (now keys) ⌝ }
         ensures { λ r. ⌜ r ≡ roomFor self (now (keys .entry)) fabric ⌝ }
@@ -90,12 +90,13 @@ impl ScenesState {
         least(per_fab_remaining, global_remaining)
     }
 
-    // A fabric's remaining capacity.
+    // A fabric's remaining capacity, as it is reported. A copy looks at the room itself.
     pub fn remaining_capacity_for_fab(self, keys: &[u64], fabric: u8) -> u8
         requires { ⌜ self .entries ≤ length (now keys) ⌝ }
         ensures { λ r. ⌜ r ≡ remaining self (now (keys .entry)) fabric ⌝ }
     {
-        least(self.room_for_fab(keys, fabric), Limits::MAX_SHOWN) as u8
+        let room = self.room_for_fab(keys, fabric);
+        least(room, Limits::MAX_REMAINING_CAPACITY) as u8
     }
 
     // Whether one more entry of a fabric fits. Its share is not looked at.

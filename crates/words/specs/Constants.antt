@@ -94,6 +94,10 @@ endOfContainer = 0x18
 abbrev pub maxScenes : ℕ
 maxScenes = 1024
 
--- the most that an answer can say of a remaining capacity or of a count
+-- the most that an answer can say of a count
 abbrev pub maxShown : ℕ
 maxShown = 255
+
+-- the most that an answer says of a remaining capacity: document 02, Q-4
+abbrev pub maxRemaining : ℕ
+maxRemaining = 253

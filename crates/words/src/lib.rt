@@ -76,6 +76,9 @@ impl Limits {
 
     // The most that a byte of an answer can say.
     pub const MAX_SHOWN: usize = 0xFF;
+
+    // The most that is reported of a remaining capacity.
+    pub const MAX_REMAINING_CAPACITY: usize = 253;
 }
 
 // How an entry lies in the lent field bytes: its length, then room for its fields.

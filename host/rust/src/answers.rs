@@ -135,7 +135,7 @@ pub struct Scene<'a> {
 /// The scenes of a group.
 #[derive(Clone, Copy, Debug, PartialEq, Eq)]
 pub struct SceneList<'a> {
-    /// The remaining capacity of the fabric, at most 255.
+    /// The remaining capacity of the fabric, at most [`MAX_REMAINING`](crate::MAX_REMAINING).
     pub remaining: u8,
     /// The scene ids, in table order.
     pub ids: &'a [u8],
@@ -152,7 +152,7 @@ pub struct InfoRow {
     pub scene: u8,
     /// Whether it is valid.
     pub valid: bool,
-    /// The remaining capacity.
+    /// The remaining capacity, at most [`MAX_REMAINING`](crate::MAX_REMAINING).
     pub remaining: u8,
     /// The fabric's index.
     pub fabric: u8,

@@ -38,4 +38,4 @@ mod tests;
 pub use answers::{Done, Error, InfoRow, Scene, SceneList};
 pub use fields::{field_items, field_pairs, list_pairs, pair_of_word, pairs_max, FieldItem, FieldItems, FieldPairs};
 pub use requests::{pair, Applied, CopyRequest, GroupKey, GroupScene, Membership, SceneKey, Transition};
-pub use table::{image_max, library_version, Memory, Scenes, MAX_FIELDS, MAX_SCENES, MAX_TIME, STRIDE, VERSION};
+pub use table::{image_max, library_version, Memory, Scenes, MAX_FIELDS, MAX_REMAINING, MAX_SCENES, MAX_TIME, STRIDE, VERSION};

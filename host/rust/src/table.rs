@@ -5,7 +5,7 @@ use crate::fields::{field_pairs, pairs_max};
 use crate::requests::{pair, Applied, CopyRequest, GroupKey, Membership, SceneKey, Transition};
 
 /// The version of the interface that this crate is for. It steps whenever a struct, an answer or a call of the library changes.
-pub const VERSION: u32 = 5;
+pub const VERSION: u32 = 6;
 
 /// The version of the library that was linked: [`VERSION`], unless the crate was linked with another's.
 ///
@@ -36,6 +36,9 @@ pub const fn image_max(places: usize) -> usize {
 
 /// The longest transition time, in milliseconds.
 pub const MAX_TIME: u32 = 60_000_000;
+
+/// The most that is reported of a remaining capacity: so many, or more, remain.
+pub const MAX_REMAINING: u8 = 253;
 
 /// All that a table is: its head but for N, and its memory as it lies. What a host keeps over a power failure is the image that
 /// [`save`](Scenes::save) writes.

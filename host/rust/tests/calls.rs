@@ -314,6 +314,23 @@ fn read_info() {
     assert_eq!(table.read_info(1, 1, false), Ok(Some(InfoRow { valid: false, ..row })));
 }
 
+// What is reported of the remaining capacity of an empty table.
+fn remaining<const N: usize>() -> u8 {
+    Scenes::<N>::new().get_membership(group(1, 1), YES, &mut []).unwrap().remaining
+}
+
+#[test]
+fn a_remaining_capacity_is_reported_up_to_253() {
+    assert_eq!([remaining::<506>(), remaining::<508>(), remaining::<509>()], [252, 253, 253]);
+    assert_eq!([remaining::<511>(), remaining::<515>(), remaining::<MAX_SCENES>()], [MAX_REMAINING; 3]);
+    let table = &mut Scenes::<515>::new();
+    for i in 1..=257 {
+        assert_eq!(table.add(key(1, i, 1), 0, YES, &[], &[]), SAVED);
+        let row = table.read_info(1, 1, false).unwrap().unwrap();
+        assert_eq!((u16::from(row.count), u16::from(row.remaining)), (i.min(255), (257 - i).min(253)));
+    }
+}
+
 // The release check: what a fabric stored goes with it, and nobody else's.
 #[test]
 fn remove_fabric() {

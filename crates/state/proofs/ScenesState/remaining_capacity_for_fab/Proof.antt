@@ -1,7 +1,7 @@
 -- `ScenesState::remaining_capacity_for_fab` meets its contract. Assumes nothing.
 use Prim.Native.Nat.{ℕ, min}
 use mathlib.Core.Path.{ap, _∙_}
-use Rattle.words.specs.Constants.{maxShown}
+use Rattle.words.specs.Constants.{maxRemaining}
 use Rattle.state.specs.Capacity.{remaining}
 use borrow.Author.Needs.{needs}
 use Rattle.state.proofs.ScenesState.remaining_capacity_for_fab.Statement.{statement}
@@ -18,7 +18,7 @@ cast-result c = search needs
 
 returns : tie.Need-returns
 unfolding remaining
-returns c = c .least .ensures ∙ ap (λ (n : ℕ). min n maxShown) (c .before .room-for-fab .ensures)
+returns c = c .least .ensures ∙ ap (λ (n : ℕ). min n maxRemaining) (c .before .room-for-fab .ensures)
 
 pub remaining-capacity-for-fab-spec : {M : Type 1} → statement M
 remaining-capacity-for-fab-spec =

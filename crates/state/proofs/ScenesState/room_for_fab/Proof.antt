@@ -7,13 +7,9 @@ use borrow.Author.Needs.{needs}
 use Rattle.state.proofs.ScenesState.room_for_fab.Statement.{statement}
 use Rattle.state.proofs.ScenesState.room_for_fab.Tie as tie
 
--- a full table
-none-left : (share size entries : ℕ) → size ≤ entries → 0 ≡ min share (size - entries)
-none-left share size entries h = omega arith
-
 returns : tie.Need-returns
 unfolding roomFor
-returns c = none-left _ _ _ (c .if1 .taken)
+returns c = omega (arith, c .if1 .taken)
 
 count-requires : tie.Need-count-requires
 count-requires c κs = search needs
