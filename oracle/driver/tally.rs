@@ -157,7 +157,7 @@ pub const ANSWERS: &[(&str, &str)] = &[
 
 const LENGTHS: [usize; 7] = [0, 1, 126, 127, 128, 129, 200];
 
-/// The numbers that are cut: the letter of the call, the word of its answer, what it is. Those from here on are counted.
+/// The numbers that are cut: the letter of the call, the word of its answer, what it is. Those about 253 and 255 are counted.
 const CUT: [(&str, usize, &str); 3] = [("M", 6, "M remaining"), ("I", 10, "I remaining"), ("I", 6, "I count")];
 const ABOUT: std::ops::RangeInclusive<u64> = 251..=255;
 

@@ -1,5 +1,5 @@
 -- What an image keeps of a table, as theorems state it: document 02, Q-1, "Loading the image of a table of this size that 10 below would
--- not refuse restores its entries and records, and writing a loaded image writes the Rust's bytes for it." The last is of Q-3's load.
+-- not refuse restores its entries and records, and writing a loaded image writes the Rust's bytes for it." `RewritesNone` is of Q-3.
 use Prim.Native.Nat.{ℕ, _+_, _%_, _^_, _≤_, _<_}
 use mathlib.Core.Path.{_≡_}
 use mathlib.Core.Bool.{true, false}
