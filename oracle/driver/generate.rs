@@ -231,12 +231,20 @@ fn raw_time(random: &mut Random) -> u32 {
     }
 }
 
+/// A fabric that hardly a call names.
+const STRANGER: u8 = 77;
+
 /// Entries and records as they stand, keys and fabrics repeated as they fall.
 fn raw_table(random: &mut Random, u: &mut Universe, size: usize, script: &mut Vec<String>) {
     for _ in 0..filled(random, size) {
         let key = u.any(random);
         u.written.push(key);
         script.push(format!("e {} {} {}", key.words(), raw_time(random), hex(&fields::held(random))));
+    }
+    if random.percent(10) {
+        // The list is full of another's records, so that what is to be remembered is dropped.
+        let stranger = format!("r {STRANGER} 1 0 1 1");
+        return script.extend(vec![stranger; size]);
     }
     let records = if random.percent(70) { filled(random, size) } else { 0 };
     raw_records(random, u, records, script);
@@ -358,9 +366,9 @@ fn large_grown(random: &mut Random) -> Vec<String> {
 fn capped(random: &mut Random) -> Vec<String> {
     let size = random.pick(&sizes::CAPPED);
     let mut script = vec![format!("N {size}")];
-    if random.percent(50) {
+    if random.percent(70) {
         // Others' entries leave about 253 places free, and fabric 2 has about as many entries on endpoint 1.
-        let (others, counted) = (size - 250 - random.below(8), 251 + random.below(6));
+        let (others, counted) = (size - 250 - random.below(8), 250 + random.below(7));
         for i in 0..others {
             let (fabric, group, scene) = (if i < counted { 2 } else { 3 }, 1 + i / 120, 1 + i % 120);
             script.push(format!("e {fabric} 1 {group} {scene} {} -", raw_time(random)));
@@ -371,7 +379,7 @@ fn capped(random: &mut Random) -> Vec<String> {
     for scene in 0..random.below(8) {
         script.push(format!("S 1 1 1 {} 1 -", u.scenes[scene]));
     }
-    for _ in 0..20 {
+    for _ in 0..30 {
         script.push(call(random, &mut u, CAPPED_CALLS));
     }
     script

@@ -24,7 +24,7 @@ use shrink::Programs;
 use tally::Tally;
 
 /// From so many calls on, every answer must have been met a hundred times.
-const COMPLETE: u64 = 500_000;
+const COMPLETE: u64 = 200_000;
 const WANTED: u64 = 100;
 /// About so many calls go to a process.
 const BATCH: usize = 8_000;

@@ -23,7 +23,7 @@ use Rattle.observation.specs.Calls.{Command, view, remove, removeAll, st
 use Rattle.observation.specs.Equivalence.{keyIs, Same, wholeCopy, mine, seen}
 use Rattle.observation.proofs.Lists.{found, has, takeOut, Often}
 use Rattle.observation.proofs.Lookups.{holds, entryOf}
-use Rattle.observation.proofs.Changes.{View, usedIn, roomIn, currentIn, placeFor, entriesSet, written, invalidated, remembered}
+use Rattle.observation.proofs.Changes.{View, usedIn, currentIn, placeFor, entriesSet, written, invalidated, remembered}
 use Rattle.observation.proofs.Effects.{Seen, refuse, done, shown, gateOf, timeOf, viewed, applied, recalled, addOut, idsIn, remainingIn, row, infoOut}
 use Rattle.observation.proofs.Counts.{count-keep, count-map, length-count, count-le, find-put}
 use Rattle.observation.proofs.Choices.{cond-elim, cond-two, has-same, count-has, less-takeOut, less-keep}

@@ -1,6 +1,6 @@
 -- `ScenesState::room_for_fab` meets its contract. Assumes nothing.
-use Prim.Native.Nat.{ℕ, _-_, _/_, _≤_, min}
-use mathlib.Core.Path.{_≡_, ap, _∙_}
+use Prim.Native.Nat.{ℕ, _-_, _/_, min}
+use mathlib.Core.Path.{ap, _∙_}
 use native.Mathlib.Omega.{arith}
 use Rattle.state.specs.Capacity.{roomFor}
 use borrow.Author.Needs.{needs}
