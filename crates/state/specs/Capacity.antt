@@ -18,7 +18,7 @@ used s keys fabric = countKeys keys (s .entries) (fabricKeys fabric)
 unfoldable pub roomFor : ScenesState → List ℕ → ℕ → ℕ
 roomFor s keys fabric = min ((s .size - 1) / 2 - used s keys fabric) (s .size - s .entries)
 
--- the remaining capacity, which membership and info report. It is 0 where the room is, and so copy looks at the room
+-- the remaining capacity, as membership and info report it. Copy asks only whether it is 0, and looks at the room for that
 unfoldable pub remaining : ScenesState → List ℕ → ℕ → ℕ
 remaining s keys fabric = min (roomFor s keys fabric) maxRemaining
 
@@ -32,7 +32,8 @@ mayAppend s fabric = ltb (s .entries) (s .size)
 abbrev pub byteRemaining : ScenesState → List ℕ → ℕ → ℕ
 byteRemaining s keys fabric = min (roomFor s keys fabric) maxShown
 
--- It is the smaller of 253 and that number, in every table; up to N 508 the two are one, and in an empty table of 509 places they are not
+-- In every table `remaining` is the smaller of 253 and `byteRemaining`, and 0 exactly where the room is 0. Up to N 508 the two are one, and
+-- in an empty table of 509 places they are not
 pub record ByCap : Type 0 where
   pub smaller : (s : ScenesState) (keys : List ℕ) (fabric : ℕ) → remaining s keys fabric ≡ min maxRemaining (byteRemaining s keys fabric)
   pub up-to-508 : (s : ScenesState) (keys : List ℕ) (fabric : ℕ) → s .size ≤ 508 → remaining s keys fabric ≡ byteRemaining s keys fabric
