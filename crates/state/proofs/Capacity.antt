@@ -1,14 +1,17 @@
--- What the cap of the remaining capacity changes. Assumes nothing.
-use Prim.Native.Nat.{ℕ, _-_, _/_, _≤_, min}
-use mathlib.Core.Path.{_≡_, refl}
+-- What the cap of the remaining capacity changes, and what the share mode. Assumes nothing.
+use Prim.Native.Nat.{ℕ, _-_, _/_, _≤_, _<_, min}
+use mathlib.Core.Path.{_≡_, refl, sym, ap, _∙_}
 use mathlib.Core.Logic.{_↔_}
+use mathlib.Core.Bool.{Bool, true, false, cond, not}
 use mathlib.Core.List.{List}
 use native.Mathlib.Omega.{arith}
+use lib.Dec.{eqb, ltb}
+use borrow.Author.Tests.{ltb-true, ltb-false, lt-ltb, le-ltb, eq-eqb, ne-eqb}
 use Rattle.words.specs.Constants.{maxRemaining}
 use Rattle.words.specs.Below.{countBelow}
 use Rattle.slots.specs.Slots.{countKeys}
 use Rattle.state.specs.declared.ScenesState.{ScenesState}
-use Rattle.state.specs.Capacity.{roomFor, remaining, byteRemaining, ByCap}
+use Rattle.state.specs.Capacity.{roomFor, remaining, shareMode, placesFor, mayAppend, byteRemaining, ByCap, ByShare}
 
 module _ (s : ScenesState) (keys : List ℕ) (fabric : ℕ) where
   smaller : remaining s keys fabric ≡ min maxRemaining (byteRemaining s keys fabric)
@@ -33,3 +36,60 @@ module _ (s : ScenesState) (keys : List ℕ) (fabric : ℕ) where
 
 pub by-cap : ByCap
 by-cap = record { smaller = smaller; up-to-508 = up-to-508; at-509 = at-509; none-left = none-left }
+
+-- ---- the share mode
+
+-- a test for more than 0, of a difference and of what is left
+above : (m n : ℕ) → ltb 0 (n - m) ≡ ltb m n
+above m n =
+    (elim (ltb m n) as (λ b. ltb m n ≡ b → ltb 0 (n - m) ≡ b) [
+      | true ↦ λ e. lt-ltb 0 (n - m) (omega (arith, ltb-true m n e))
+      | false ↦ λ e. le-ltb 0 (n - m) (omega (arith, ltb-false m n e))
+    ]) refl
+
+left : (n k : ℕ) → (n ≡ 0 → k ≡ 0) → (k ≡ 0 → n ≡ 0) → ltb 0 n ≡ not (eqb k 0)
+left n k to from =
+    (elim (ltb 0 n) as (λ b. ltb 0 n ≡ b → b ≡ not (eqb k 0)) [
+      | true ↦ λ e. sym (ap not (ne-eqb k 0 (λ z. omega (arith, from z, ltb-true 0 n e))))
+      | false ↦ λ e. sym (ap not (eq-eqb k 0 (to (omega (arith, ltb-false 0 n e)))))
+    ]) refl
+
+module _ (s : ScenesState) (keys : List ℕ) (fabric : ℕ) where
+  -- the places in either mode
+  pub free-places : shareMode s ≡ false → placesFor s keys fabric ≡ s .size - s .entries
+  unfolding placesFor
+  free-places e = ap (λ (b : Bool). cond b (roomFor s keys fabric) (s .size - s .entries)) e
+
+  pub share-places : shareMode s ≡ true → placesFor s keys fabric ≡ roomFor s keys fabric
+  unfolding placesFor
+  share-places e = ap (λ (b : Bool). cond b (roomFor s keys fabric) (s .size - s .entries)) e
+
+  pub may-free : shareMode s ≡ false → mayAppend s keys fabric ≡ ltb (s .entries) (s .size)
+  may-free e = ap (ltb 0) (free-places e) ∙ above (s .entries) (s .size)
+
+  pub may-share : shareMode s ≡ true → mayAppend s keys fabric ≡ ltb 0 (roomFor s keys fabric)
+  may-share e = ap (ltb 0) (share-places e)
+
+  within : shareMode s ≡ true → mayAppend s keys fabric ≡ not (eqb (remaining s keys fabric) 0)
+  within e = may-share e ∙ left (roomFor s keys fabric) (remaining s keys fabric) (none-left s keys fabric .1) (none-left s keys fabric .0)
+
+  uncut : shareMode s ≡ true → s .size ≡ 1024 → s .entries ≡ 0 → placesFor s keys fabric ≡ 511
+  unfolding roomFor countKeys countBelow
+  uncut e h z = share-places e ∙ rw (h, z) refl
+
+  room-free : roomFor s keys fabric ≤ s .size - s .entries
+  unfolding roomFor
+  room-free = omega arith
+
+  pub places-free : placesFor s keys fabric ≤ s .size - s .entries
+  places-free =
+      (elim (shareMode s) as (λ b. shareMode s ≡ b → placesFor s keys fabric ≤ s .size - s .entries) [
+        | true ↦ λ e. omega (arith, share-places e, room-free)
+        | false ↦ λ e. omega (arith, free-places e)
+      ]) refl
+
+  pub may-fits : mayAppend s keys fabric ≡ true → s .entries < s .size
+  may-fits e = omega (arith, ltb-true 0 (placesFor s keys fabric) e, places-free)
+
+pub by-share : ByShare
+by-share = record { without = may-free; within = within; uncut = uncut; free = places-free }

@@ -17,9 +17,10 @@ use Rattle.records.specs.declared.Scope.the-variants.{Scene}
 use Rattle.state.specs.declared.ScenesState.{ScenesState}
 use Rattle.state.specs.Table.{Table, tableOf, currentOf, Room, withEntries, withEntryCount}
 use Rattle.state.specs.Sound.{inBounds, sound}
-use Rattle.state.specs.Capacity.{mayAppend}
+use Rattle.state.specs.Capacity.{shareMode, mayAppend}
 use Rattle.state.specs.Current.{invalidateCurrent}
-use Rattle.state.specs.Change.{findScene, putAt, append, Upserted, upsertedOf, written, upsertAt, upsert}
+use Rattle.state.specs.Change.{findScene, putAt, append, Upserted, upsertedOf, written, upsertAt, upsert, plainAt, WithoutShare}
+use Rattle.state.proofs.Capacity.{may-free}
 
 -- ---- soundness
 
@@ -76,12 +77,23 @@ found-under keys n key p e = first-under _ n p e .0
 -- what was not found, by whether one more entry fits
 pub may-decide : (key : SceneKey) (time : ℕ) (ext : List ℕ) (t : Table) {b : Bool}
     → findScene key t ≡ Nothing
-    → mayAppend (t .state) (key .fabric) ≡ b
+    → mayAppend (t .state) (t .slots .keys) (key .fabric) ≡ b
     → cond b (written key (withEntries (append key time ext) t)) (upsertedOf insufficientSpace t) ≡ upsert key time ext t
 unfolding upsert upsertAt
 may-decide key time ext t e m =
     ap (λ (b : Bool). cond b (written key (withEntries (append key time ext) t)) (upsertedOf insufficientSpace t)) (sym m)
     ∙ ap (λ (f : Found). upsertAt f key time ext t) (sym e)
+
+-- without the share mode
+plain-at : (f : Found) (key : SceneKey) (time : ℕ) (ext : List ℕ) (t : Table) → shareMode (t .state) ≡ false → upsertAt f key time ext t ≡ plainAt f key time ext t
+unfolding upsertAt
+plain-at (At p) key time ext t e = refl
+plain-at Nothing key time ext t e =
+    ap (λ (b : Bool). cond b (written key (withEntries (append key time ext) t)) (upsertedOf insufficientSpace t)) (may-free (t .state) (t .slots .keys) (key .fabric) e)
+
+pub without-share : WithoutShare
+unfolding upsert
+without-share key time ext t e = plain-at (findScene key t) key time ext t e
 
 -- the slots and the records that the code leaves are the definition's; w is the key's word
 
@@ -98,7 +110,7 @@ module _ (key : SceneKey) (time : ℕ) (ext : List ℕ) (t : Table) (s : ScenesS
 
   pub upsert-new :
       findScene key t ≡ Nothing
-      → mayAppend (t .state) (key .fabric) ≡ true
+      → mayAppend (t .state) (t .slots .keys) (key .fabric) ≡ true
       → slotsOf k tm f ≡ putSlot (t .state .entries) w time ext (t .slots)
       → currentOf s r ≡ invalidateCurrent (Scene key) (currentOf (withEntryCount (t .state .entries + 1) (t .state)) (t .records))
       → upsertedOf success (tableOf s k tm f r) ≡ upsert key time ext t
@@ -108,18 +120,19 @@ module _ (key : SceneKey) (time : ℕ) (ext : List ℕ) (t : Table) (s : ScenesS
       (λ i. upsertedOf success (record { state = e2 i .state; slots = put i; records = e2 i .records }))
       ∙ may-decide key time ext t e m
 
--- an upsert keeps the size and how many records there are
+-- an upsert keeps the size, the modes and how many records there are
 pub record SameHead (t : Table) (u : Upserted) : Type 0 where
   pub recorded : u .table .state .recorded ≡ t .state .recorded
   pub size : u .table .state .size ≡ t .state .size
+  pub modes : u .table .state .modes ≡ t .state .modes
 
 at-head : (f : Found) (key : SceneKey) (time : ℕ) (ext : List ℕ) (t : Table) → SameHead t (upsertAt f key time ext t)
 unfolding upsertAt putAt append invalidateCurrent
-at-head (At p) key time ext t = record { recorded = refl; size = refl }
+at-head (At p) key time ext t = record { recorded = refl; size = refl; modes = refl }
 at-head Nothing key time ext t =
-    elim (mayAppend (t .state) (key .fabric)) as (λ b. SameHead t (cond b (written key (withEntries (append key time ext) t)) (upsertedOf insufficientSpace t))) [
-      | true ↦ record { recorded = refl; size = refl }
-      | false ↦ record { recorded = refl; size = refl }
+    elim (mayAppend (t .state) (t .slots .keys) (key .fabric)) as (λ b. SameHead t (cond b (written key (withEntries (append key time ext) t)) (upsertedOf insufficientSpace t))) [
+      | true ↦ record { recorded = refl; size = refl; modes = refl }
+      | false ↦ record { recorded = refl; size = refl; modes = refl }
     ]
 
 pub upserted-head : (key : SceneKey) (time : ℕ) (ext : List ℕ) (t : Table) (u : Upserted) → u ≡ upsert key time ext t → SameHead t u

@@ -1,10 +1,11 @@
--- The remaining capacity of a fabric: document 01, "Capacity", with the cap of document 02, Q-4.
-use Prim.Native.Nat.{ℕ, _-_, _/_, _≤_, min}
+-- The remaining capacity of a fabric, and whether a new scene of it finds a place: document 01, "Capacity" and "Upsert", with the cap of
+-- document 02, Q-4, and its share mode, Q-5.
+use Prim.Native.Nat.{ℕ, _-_, _/_, _%_, _≤_, min}
 use mathlib.Core.Path.{_≡_}
 use mathlib.Core.Logic.{_↔_}
-use mathlib.Core.Bool.{Bool}
+use mathlib.Core.Bool.{Bool, true, false, cond, not}
 use mathlib.Core.List.{List}
-use lib.Dec.{ltb}
+use lib.Dec.{eqb, ltb}
 use Rattle.words.specs.Constants.{maxShown, maxRemaining}
 use Rattle.words.specs.Words.{fabricKeys}
 use Rattle.slots.specs.Slots.{countKeys}
@@ -22,9 +23,17 @@ roomFor s keys fabric = min ((s .size - 1) / 2 - used s keys fabric) (s .size - 
 unfoldable pub remaining : ScenesState → List ℕ → ℕ → ℕ
 remaining s keys fabric = min (roomFor s keys fabric) maxRemaining
 
--- whether one more entry of a fabric fits. Its share is not looked at
-abbrev pub mayAppend : ScenesState → ℕ → Bool
-mayAppend s fabric = ltb (s .entries) (s .size)
+-- the share mode: bit 0 of the modes. The other bits mean nothing
+abbrev pub shareMode : ScenesState → Bool
+shareMode s = eqb (s .modes % 2) 1
+
+-- how many new scenes a fabric may still add: all free places; in share mode no more than its room, which is not cut
+unfoldable pub placesFor : ScenesState → List ℕ → ℕ → ℕ
+placesFor s keys fabric = cond (shareMode s) (roomFor s keys fabric) (s .size - s .entries)
+
+-- whether one more entry of a fabric fits
+abbrev pub mayAppend : ScenesState → List ℕ → ℕ → Bool
+mayAppend s keys fabric = ltb 0 (placesFor s keys fabric)
 
 -- ---- the theorem of Q-4: what the smaller cap changes
 
@@ -40,3 +49,13 @@ pub record ByCap : Type 0 where
   pub at-509 : (s : ScenesState) (keys : List ℕ) (fabric : ℕ) → s .size ≡ 509 → s .entries ≡ 0
       → (remaining s keys fabric ≡ 253) × (byteRemaining s keys fabric ≡ 254)
   pub none-left : (s : ScenesState) (keys : List ℕ) (fabric : ℕ) → remaining s keys fabric ≡ 0 ↔ roomFor s keys fabric ≡ 0
+
+-- ---- the theorem of Q-5: what the share mode changes
+
+-- Without the mode a new scene needs a free place and nothing else, as by document 01 and by the Rust. In it the remaining capacity must not
+-- be 0, for which no cap counts: an empty table of 1,024 places has 511 of them for a fabric. In either mode a place is free
+pub record ByShare : Type 0 where
+  pub without : (s : ScenesState) (keys : List ℕ) (fabric : ℕ) → shareMode s ≡ false → mayAppend s keys fabric ≡ ltb (s .entries) (s .size)
+  pub within : (s : ScenesState) (keys : List ℕ) (fabric : ℕ) → shareMode s ≡ true → mayAppend s keys fabric ≡ not (eqb (remaining s keys fabric) 0)
+  pub uncut : (s : ScenesState) (keys : List ℕ) (fabric : ℕ) → shareMode s ≡ true → s .size ≡ 1024 → s .entries ≡ 0 → placesFor s keys fabric ≡ 511
+  pub free : (s : ScenesState) (keys : List ℕ) (fabric : ℕ) → placesFor s keys fabric ≤ s .size - s .entries

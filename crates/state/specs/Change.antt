@@ -1,8 +1,9 @@
 -- What upserting, removing and retaining make of a table: document 01, "Upsert", and of "Commands" what remove and remove all do
 -- to the entries.
 use Prim.Native.Nat.{ℕ, _+_, _-_}
-use mathlib.Core.Bool.{cond}
-use lib.Dec.{eqb}
+use mathlib.Core.Path.{_≡_}
+use mathlib.Core.Bool.{false, cond}
+use lib.Dec.{eqb, ltb}
 use mathlib.Core.List.{List}
 use lib.ListN.{length}
 use Rattle.words.specs.Constants.{success, insufficientSpace}
@@ -14,7 +15,7 @@ use Rattle.words.specs.declared.SceneKey.{SceneKey}
 use Rattle.slots.specs.Slots.{firstKey, putSlot, copySlot, outside, gathered}
 use Rattle.records.specs.declared.Scope.the-variants.{Scene}
 use Rattle.state.specs.Table.{Table, Entries, withEntries, withCurrent, withEntryCount}
-use Rattle.state.specs.Capacity.{mayAppend}
+use Rattle.state.specs.Capacity.{shareMode, mayAppend}
 use Rattle.state.specs.Current.{invalidateCurrent}
 use Rattle.state.specs.Answer.{Result, resultOf}
 
@@ -43,14 +44,26 @@ upsertedOf s t = record { status = s; table = t }
 abbrev pub written : SceneKey → Table → Upserted
 written key t = upsertedOf success (withCurrent (invalidateCurrent (Scene key)) t)
 
--- a known key gets new time and fields, even in a full table; otherwise 0x89 in a full table, else an append
+-- a known key gets new time and fields, whether or not there is a place; otherwise 0x89 where one more does not fit, else an append
 unfoldable pub upsertAt : Found → SceneKey → ℕ → List ℕ → Table → Upserted
 upsertAt (At p) key time ext t = written key (withEntries (putAt p key time ext) t)
 upsertAt Nothing key time ext t =
-    cond (mayAppend (t .state) (key .fabric)) (written key (withEntries (append key time ext) t)) (upsertedOf insufficientSpace t)
+    cond (mayAppend (t .state) (t .slots .keys) (key .fabric)) (written key (withEntries (append key time ext) t)) (upsertedOf insufficientSpace t)
 
 unfoldable pub upsert : SceneKey → ℕ → List ℕ → Table → Upserted
 upsert key time ext t = upsertAt (findScene key t) key time ext t
+
+-- the theorem of Q-5 about adds and stores: without the share mode an upsert is that of document 01, in which 0x89 means a full table. No other
+-- definition of a call looks at the modes
+abbrev pub plainAt : Found → SceneKey → ℕ → List ℕ → Table → Upserted
+plainAt (At p) key time ext t = written key (withEntries (putAt p key time ext) t)
+plainAt Nothing key time ext t =
+    cond (ltb (t .state .entries) (t .state .size)) (written key (withEntries (append key time ext) t)) (upsertedOf insufficientSpace t)
+
+abbrev pub WithoutShare : Type 0
+WithoutShare =
+    (key : SceneKey) (time : ℕ) (ext : List ℕ) (t : Table) → shareMode (t .state) ≡ false
+    → upsert key time ext t ≡ plainAt (findScene key t) key time ext t
 
 -- the save mark is set for status 0
 abbrev pub saved : Upserted → Result

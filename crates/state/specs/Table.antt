@@ -52,23 +52,36 @@ recordsIn t = take (t .state .recorded) (t .records)
 
 -- ---- the head
 
--- a new head: no entries, no records, data version 0
+-- a new head: no entries, no records, data version 0, and the modes that the table is to have for good
+abbrev pub newStateWith : ℕ → ℕ → ScenesState
+newStateWith size modes = record { size = size; entries = 0; recorded = 0; dataver = 0; modes = modes }
+
+-- without modes
 abbrev pub newState : ℕ → ScenesState
-newState size = record { size = size; entries = 0; recorded = 0; dataver = 0 }
+newState size = newStateWith size 0
 
 -- an empty table of n places, with zeros in its memory
+abbrev pub emptyTableWith : ℕ → ℕ → Table
+emptyTableWith n modes = tableOf (newStateWith n modes) (replicate n 0) (replicate n 0) (replicate (n * stride) 0) (replicate n 0)
+
 abbrev pub emptyTable : ℕ → Table
-emptyTable n = tableOf (newState n) (replicate n 0) (replicate n 0) (replicate (n * stride) 0) (replicate n 0)
+emptyTable n = emptyTableWith n 0
 
 abbrev pub withEntryCount : ℕ → ScenesState → ScenesState
-withEntryCount n s = record { size = s .size; entries = n; recorded = s .recorded; dataver = s .dataver }
+withEntryCount n s = record { size = s .size; entries = n; recorded = s .recorded; dataver = s .dataver; modes = s .modes }
 
 abbrev pub withRecordCount : ℕ → ScenesState → ScenesState
-withRecordCount n s = record { size = s .size; entries = s .entries; recorded = n; dataver = s .dataver }
+withRecordCount n s = record { size = s .size; entries = s .entries; recorded = n; dataver = s .dataver; modes = s .modes }
 
 -- one step of the data version, which wraps from 4,294,967,295 to 0, if the test holds
 abbrev pub bumpIf : Bool → ScenesState → ScenesState
-bumpIf b s = record { size = s .size; entries = s .entries; recorded = s .recorded; dataver = cond b ((s .dataver + 1) % 2 ^ 32) (s .dataver) }
+bumpIf b s = record {
+  size = s .size;
+  entries = s .entries;
+  recorded = s .recorded;
+  dataver = cond b ((s .dataver + 1) % 2 ^ 32) (s .dataver);
+  modes = s .modes;
+}
 
 -- ---- what a table must have for an operation to be in bounds: the counts are within the size, the size within the lent memory
 

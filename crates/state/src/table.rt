@@ -1,4 +1,5 @@
 // The entries of a table: soundness, capacity, upsert, remove and retain.
+use crate::Modes;
 use crate::Outcome;
 use crate::ScenesState;
 use records::Scope;
@@ -17,7 +18,7 @@ ghost use Rattle.words.specs.Words.{wordOf};
 ghost use Rattle.slots.specs.Slots.{firstKey};
 ghost use Rattle.state.specs.Table.{tableOf, entriesOf, Room};
 ghost use Rattle.state.specs.Sound.{inBounds, sound};
-ghost use Rattle.state.specs.Capacity.{roomFor, remaining, mayAppend};
+ghost use Rattle.state.specs.Capacity.{roomFor, remaining, shareMode, mayAppend};
 ghost use Rattle.state.specs.Answer.{resultOf};
 ghost use Rattle.state.specs.Change.{saved, upsert, swapRemove, retainOutside};
 
@@ -74,7 +75,7 @@ impl ScenesState {
         false
     }
 
-    // How many scenes a fabric may still copy, before that is cut. A full table has room for none, whatever the fabric uses.
+    // How many scenes a fabric may still copy and, in share mode, add, before that is cut. A full table has room for none, whatever the fabric uses.
     pub fn room_for_fab(self, keys: &[u64], fabric: u8) -> usize
         requires { ⌜ self .entries ≤ length (now keys) ⌝ }
         ensures { λ r. ⌜ r ≡ roomFor self (now (keys .entry)) fabric ⌝ }
@@ -99,10 +100,21 @@ impl ScenesState {
         least(room, Limits::MAX_REMAINING_CAPACITY) as u8
     }
 
-    // Whether one more entry of a fabric fits. Its share is not looked at.
-    fn may_append(self, fabric: u8) -> bool
-        ensures { λ r. ⌜ r ≡ mayAppend self fabric ⌝ }
+    // Whether a fabric's share limits every new scene.
+    fn share_mode(self) -> bool
+        ensures { λ r. ⌜ r ≡ shareMode self ⌝ }
     {
+        self.modes % 2 == Modes::SHARE
+    }
+
+    // Whether one more entry of a fabric fits: a place is free, of which in share mode the fabric has one.
+    fn may_append(self, keys: &[u64], fabric: u8) -> bool
+        requires { ⌜ self .entries ≤ length (now keys) ⌝ }
+        ensures { λ r. ⌜ r ≡ mayAppend self (now (keys .entry)) fabric ⌝ }
+    {
+        if self.share_mode() {
+            return 0 < self.room_for_fab(keys, fabric);
+        }
         self.entries < self.size
     }
 
@@ -129,7 +141,7 @@ impl ScenesState {
         let word = key.word();
         let Found::At(at) = found else {
             let n = self.entries;
-            if self.may_append(key.fabric) {
+            if self.may_append(keys, key.fabric) {
                 slot_writes::put(keys, times, fields, n, word, time, ext);
                 self.entries = n + 1;
                 return Outcome {

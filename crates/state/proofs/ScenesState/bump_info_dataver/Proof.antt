@@ -9,7 +9,7 @@ wrapping-add-u32-requires c κs = search needs
 returns : tie.Need-returns
 returns c =
     let s = c .before .args .self in
-    λ i. record { size = s .size; entries = s .entries; recorded = s .recorded; dataver = c .wrapping-add-u32 .ensures i }
+    λ i. record { size = s .size; entries = s .entries; recorded = s .recorded; dataver = c .wrapping-add-u32 .ensures i; modes = s .modes }
 
 pub bump-info-dataver-spec : {M : Type 1} → statement M
 bump-info-dataver-spec = tie.close (tie.spec wrapping-add-u32-requires returns)

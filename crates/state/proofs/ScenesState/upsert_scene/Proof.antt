@@ -3,11 +3,11 @@ use Prim.Native.Nat.{_<_}
 use mathlib.Core.Path.{_≡_, sym, ap, _∙_}
 use mathlib.Core.Bool.{true}
 use native.Mathlib.Omega.{arith}
-use borrow.Author.Tests.{ltb-true}
 use Rattle.words.specs.declared.Found.the-variants.{At, Nothing}
 use Rattle.state.specs.Table.{Table, tableOf}
 use Rattle.state.specs.Capacity.{mayAppend}
 use Rattle.state.specs.Change.{findScene, saved}
+use Rattle.state.proofs.Capacity.{may-fits}
 use Rattle.state.proofs.Laws.{found-under, upsert-known, upsert-new, may-decide}
 use Rattle.state.proofs.Guard.{resultIn}
 use borrow.Author.Needs.{needs}
@@ -20,6 +20,9 @@ start c = c .before .before .before .before .before .before
 
 abbrev missed : tie.After-enum-told → tie.After-word
 missed c = c .before .before
+
+abbrev asked : tie.Then1 → tie.After-enum-told
+asked c = c .before .before .before
 
 abbrev free : tie.After-put-arg3 → tie.Then1
 free c = c .before .before .before
@@ -52,27 +55,28 @@ new c = sym (start (missed c) .pre .1 .0) ∙ c .enum-told .given .1
 stands : (c : tie.After-found) → findScene (start (named c) .args .key) (came (named c)) ≡ At (c .found .given .0 .0)
 stands c = sym (start (named c) .pre .1 .0) ∙ c .found .given .1
 
-fits : (c : tie.Then1) → (let a = start (missed (c .before .before)) .args in mayAppend (a .self) (a .key .fabric) ≡ true)
+fits : (c : tie.Then1) → (let a = start (missed (asked c)) .args in mayAppend (a .self) (a .keys .now) (a .key .fabric) ≡ true)
 fits c = sym (c .before .may-append .ensures) ∙ c .if1 .taken
 
 put-requires : tie.Need-put-requires
 put-requires c κs =
-    let s = start (missed (free c .before .before)) in
-    let h : s .args .self .entries < s .args .self .size = ltb-true _ _ (fits (free c)) in
+    let s = start (missed (asked (free c))) in
+    let a = s .args in
+    let h : a .self .entries < a .self .size = may-fits (a .self) (a .keys .now) (a .key .fabric) (fits (free c)) in
     let room = s .pre .0 in
     omega arith
 
 returns : tie.Need-returns
 returns c =
     let p = appended (marked c .before) in
-    let told = free (p .before) .before .before in
+    let told = asked (free (p .before)) in
     let w = missed told in
     let a = start w .args in
     ap saved (upsert-new (a .key) (a .time) (a .ext .now) (came w) _ _ _ _ _ _ (w .word .ensures) (new told) (fits (free (p .before))) (p .put .ensures) (marked c .invalidate-current .ensures))
 
 returns-2 : tie.Need-returns-2
 returns-2 c =
-    let told = c .before .before .before in
+    let told = c .before .before .before .before in
     let w = missed told in
     let a = start w .args in
     ap (resultIn (came w .slots) (came w .records)) (c .unsaved .ensures)
@@ -109,6 +113,7 @@ upsert-scene-spec =
     (λ c. search needs)
     returns
     (λ c κs. search needs)
+    (λ c. search needs)
     returns-2
     put-requires-2
     (λ c κs. search needs)
