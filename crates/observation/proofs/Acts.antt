@@ -42,7 +42,7 @@ itself t sd = record { view = refl; stays = sd }
 -- other entries, and the rest as it was
 pub with-entries : (t u : Table) (es : List SceneEntry) → EntriesOnly u t → entriesIn u ≡ es → viewOf u ≡ entriesSet es (viewOf t)
 unfolding viewOf
-with-entries t u es o e = λ i. record { size = o .size i; dataver = o .dataver i; entries = e i; records = o .records i }
+with-entries t u es o e = λ i. record { size = o .size i; modes = o .modes i; dataver = o .dataver i; entries = e i; records = o .records i }
 
 module _ (scope : Scope) where
   invalidated-view : (t : Table) → sound t ≡ true → viewOf (withCurrent (invalidateCurrent scope) t) ≡ invalidated scope (viewOf t)
@@ -51,7 +51,7 @@ module _ (scope : Scope) where
       let o = invalidated-only t scope in
       let d = invalidated-dataver t scope sd in
       let r = invalidated-records t scope in
-      λ i. record { size = o .size i; dataver = d i; entries = o .entries i; records = r i }
+      λ i. record { size = o .size i; modes = o .modes i; dataver = d i; entries = o .entries i; records = r i }
 
   pub invalidates : (t : Table) (v : View) → Shows t v → Shows (withCurrent (invalidateCurrent scope) t) (invalidated scope v)
   invalidates t v s = record { view = invalidated-view t (s .stays) ∙ ap (invalidated scope) (s .view); stays = invalidated-sound t scope (s .stays) }
@@ -66,7 +66,7 @@ module _ (key : SceneKey) where
       let r : recordsIn (withCurrent (rememberCurrent key) t) ≡ cond (has own (recordsIn t) || ltb (length (recordsIn t)) (t .state .size)) (put own (validRecord key) (recordsIn t)) (recordsIn t) =
       remembered-records t sd key
       ∙ ap (λ (n : ℕ). cond (has own (recordsIn t) || ltb n (t .state .size)) (put own (validRecord key) (recordsIn t)) (recordsIn t)) (sym (records-length t sd)) in
-      λ i. record { size = o .size i; dataver = d i; entries = o .entries i; records = r i }
+      λ i. record { size = o .size i; modes = o .modes i; dataver = d i; entries = o .entries i; records = r i }
 
   pub remembers : recordSound (validRecord key) ≡ true → (t : Table) (v : View) → Shows t v → Shows (withCurrent (rememberCurrent key) t) (remembered key v)
   remembers k t v s = record { view = remembered-view t (s .stays) ∙ ap (remembered key) (s .view); stays = remembered-sound t (s .stays) key k }

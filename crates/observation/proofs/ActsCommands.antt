@@ -1,6 +1,6 @@
 -- What both adds, store, remove and remove all let be seen of a sound table, once their gates let them pass. Assumes nothing.
 use Prim.Native.Nat.{ℕ, _^_, _≤_, _<_}
-use mathlib.Core.Path.{_≡_, refl, sym, ap, _∙_, subst}
+use mathlib.Core.Path.{_≡_, refl, sym, ap, ap₂, _∙_, subst}
 use mathlib.Core.Bool.{Bool, true, false, cond, not, _||_}
 use mathlib.Core.List.{List, [], _∷_, _++_}
 use native.Mathlib.Omega.{arith}
@@ -18,9 +18,11 @@ use Rattle.records.proofs.View.{sound-valid}
 use Rattle.requests.specs.declared.Membership.{Membership}
 use Rattle.state.specs.Table.{Table, entriesIn, withEntries, withCurrent}
 use Rattle.state.specs.Sound.{sound}
+use Rattle.state.specs.Capacity.{mayAppend}
 use Rattle.state.specs.Current.{invalidateCurrent}
 use Rattle.state.specs.Change.{saved, findScene, append, Upserted, upsertedOf, written, upsertAt, upsert, swapRemove, retainOutside}
 use Rattle.state.specs.Answer.{Result, resultOf, refused, refusalOf, guarded}
+use Rattle.state.proofs.Capacity.{may-fits}
 use Rattle.commands.specs.Commands.{addScene, priorTime, stored, storeCaptured, storeScene, removeFound, removeScene, removedAll, removeAllScenes}
 use Rattle.add_read.specs.Adding.{addSceneRead}
 use Rattle.observation.specs.Lists.{count, find, keep}
@@ -37,17 +39,20 @@ use Rattle.observation.proofs.Entries.{removed, removed-sound, removed-
 use Rattle.observation.proofs.Losses.{lost, none-lost, has-count}
 use Rattle.observation.proofs.Sound.{word-sound}
 use Rattle.observation.proofs.Acts.{Shows, itself, with-entries, invalidates, remembers, writes-over, writes-new, Acts, results, acts-passed}
+use Rattle.observation.proofs.ActsReads.{places}
 use Rattle.requests.proofs.Passed.{Named, add-passed, store-passed}
 use Rattle.observation.proofs.Passed.{addRead-passed}
 
 -- ---- upsert
 
 module _ (key : SceneKey) (time : ℕ) (ext : List ℕ) (short : length ext ≤ maxFields) (k : keySound (wordOf key) ≡ true) (t : Table) (sd : sound t ≡ true) where
-  place : placeFor (wordOf key) (viewOf t) ≡ (isFound (findScene key t) || ltb (t .state .entries) (t .state .size))
+  -- one more entry of the key's fabric fits
+  abbrev may : Bool
+  may = mayAppend (t .state) (t .slots .keys) (key .fabric)
+
+  place : placeFor (key .fabric) (wordOf key) (viewOf t) ≡ (isFound (findScene key t) || may)
   unfolding viewOf
-  place =
-      ap (λ (b : Bool). b || ltb (length (entriesIn t)) (t .state .size)) (entries-has t (wordOf key))
-      ∙ ap (λ (n : ℕ). isFound (findScene key t) || ltb n (t .state .size)) (entries-length t)
+  place = ap₂ (λ (b : Bool) (n : ℕ). b || ltb 0 n) (entries-has t (wordOf key)) (sym (places (key .fabric) t))
 
   -- where there is a place the changed table goes on, else the table as it is
   module _ (after : Upserted → Result) (x y : Seen)
@@ -57,20 +62,20 @@ module _ (key : SceneKey) (time : ℕ) (ext : List ℕ) (short : length ext ≤ 
     unfolding upsertAt
     over p e = placed _ (invalidates (Scene key) _ _ (writes-over key time ext short k t sd p e))
 
-    behind : findScene key t ≡ Nothing → Acts (ofResult (after (upsertAt Nothing key time ext t))) (cond (ltb (t .state .entries) (t .state .size)) x y)
+    behind : findScene key t ≡ Nothing → Acts (ofResult (after (upsertAt Nothing key time ext t))) (cond may x y)
     unfolding upsertAt
     behind e =
-        (elim (ltb (t .state .entries) (t .state .size)) as (λ b. ltb (t .state .entries) (t .state .size) ≡ b
+        (elim may as (λ b. may ≡ b
         → Acts (ofResult (after (cond b (written key (withEntries (append key time ext) t)) (upsertedOf insufficientSpace t)))) (cond b x y)) [
-          | true ↦ λ q. placed _ (invalidates (Scene key) _ _ (writes-new key time ext short k t sd e (ltb-true _ _ q)))
+          | true ↦ λ q. placed _ (invalidates (Scene key) _ _ (writes-new key time ext short k t sd e (may-fits (t .state) (t .slots .keys) (key .fabric) q)))
           | false ↦ λ q. full
         ]) refl
 
-    pub upserts : Acts (ofResult (after (upsert key time ext t))) (cond (placeFor (wordOf key) (viewOf t)) x y)
+    pub upserts : Acts (ofResult (after (upsert key time ext t))) (cond (placeFor (key .fabric) (wordOf key) (viewOf t)) x y)
     unfolding upsert
     upserts =
         subst (λ (b : Bool). Acts (ofResult (after (upsert key time ext t))) (cond b x y)) (sym place)
-        ((elim (findScene key t) as (λ f. findScene key t ≡ f → Acts (ofResult (after (upsertAt f key time ext t))) (cond (isFound f || ltb (t .state .entries) (t .state .size)) x y))
+        ((elim (findScene key t) as (λ f. findScene key t ≡ f → Acts (ofResult (after (upsertAt f key time ext t))) (cond (isFound f || may) x y))
         [ At p ↦ λ e. over p e | Nothing ↦ λ e. behind e ]) refl)
 
 -- ---- the other changes
@@ -128,7 +133,7 @@ module _ (f e : ℕ) (t : Table) (sd : sound t ≡ true) (hf : f < 2 ^ 8) (he : 
 
   pub store-acts : (g s : ℕ) (m : Membership) (captured : List ℕ) → CommandInRange (store g s m captured) → gateOf f e (store g s m captured) ≡ success
       → Acts (step (command f e (store g s m captured)) t)
-      (cond (placeFor (wordOf (sceneKey f e g s)) (viewOf t)) (
+      (cond (placeFor f (wordOf (sceneKey f e g s)) (viewOf t)) (
         done true,
         remembered (sceneKey f e g s)
             (invalidated (Scene (sceneKey f e g s))

@@ -39,10 +39,10 @@ use Rattle.observation.proofs.Acts.{Shows, itself, invalidates, Acts, r
 -- ---- the lifecycle's changes
 
 module _ (t : Table) (sd : sound t ≡ true) where
-  empties : (b : Bool) → Shows (emptied b t) (record { size = t .state .size; dataver = cond b (stepped (t .state .dataver)) (t .state .dataver); entries = []; records = [] })
+  empties : (b : Bool) → Shows (emptied b t) (record { size = t .state .size; modes = t .state .modes; dataver = cond b (stepped (t .state .dataver)) (t .state .dataver); entries = []; records = [] })
   unfolding viewOf
   empties b = record {
-    view = λ i. record { size = t .state .size; dataver = cond b (stepped (t .state .dataver)) (t .state .dataver); entries = emptied-entries t b i; records = emptied-records t b i };
+    view = λ i. record { size = t .state .size; modes = t .state .modes; dataver = cond b (stepped (t .state .dataver)) (t .state .dataver); entries = emptied-entries t b i; records = emptied-records t b i };
     stays = emptied-sound t sd b;
   }
 
@@ -86,6 +86,7 @@ module _ (t : Table) (sd : sound t ≡ true) (f : ℕ) where
 
   drops : (b : Bool) → Shows (record { state = bumpIf b (withRecordCount (length (others t f)) (without .state)); slots = without .slots; records = moved (others t f) (t .records) }) (record {
     size = t .state .size;
+    modes = t .state .modes;
     dataver = cond b (stepped (t .state .dataver)) (t .state .dataver);
     entries = keep (λ x. not (mine f x)) (entriesIn t);
     records = keep (λ w. not (ofFabric f w)) (recordsIn t);
@@ -95,7 +96,7 @@ module _ (t : Table) (sd : sound t ≡ true) (f : ℕ) where
       let es = retained t sd (fabricKeys f) ∙ keep-ext (λ x. not (holds (fabricKeys f) x)) (λ x. not (mine f x)) (λ x. ap not (is-mine x)) (entriesIn t) in
       let rs = dropped-records t sd f in
       record {
-        view = λ i. record { size = t .state .size; dataver = cond b (stepped (t .state .dataver)) (t .state .dataver); entries = es i; records = rs i };
+        view = λ i. record { size = t .state .size; modes = t .state .modes; dataver = cond b (stepped (t .state .dataver)) (t .state .dataver); entries = es i; records = rs i };
         stays = dropped-sound without (retained-sound t sd (fabricKeys f)) f b;
       }
 
@@ -115,6 +116,7 @@ module _ (t : Table) (sd : sound t ≡ true) where
         done (has (mine f) (viewOf t .entries) || has (ofFabric f) (viewOf t .records)),
         record {
           size = viewOf t .size;
+          modes = viewOf t .modes;
           dataver = cond (has (mine f) (viewOf t .entries) || has (ofFabric f) (viewOf t .records)) (stepped (viewOf t .dataver)) (viewOf t .dataver);
           entries = keep (λ x. not (mine f x)) (viewOf t .entries);
           records = keep (λ w. not (ofFabric f w)) (viewOf t .records);
@@ -125,11 +127,11 @@ module _ (t : Table) (sd : sound t ≡ true) where
       acts-passed (refused t) t sd (fabricGate f) _ ofResult _ (ap (λ (b : Bool). cond b noFabric success) (ne-eqb f 0 n))
       (rw (← went t sd f) (results success (gone t sd f) _ _ (drops t sd f (gone t sd f))))
 
-  pub reset-acts : Acts (step reset t) (done false, record { size = viewOf t .size; dataver = stepped (viewOf t .dataver); entries = []; records = [] })
+  pub reset-acts : Acts (step reset t) (done false, record { size = viewOf t .size; modes = viewOf t .modes; dataver = stepped (viewOf t .dataver); entries = []; records = [] })
   unfolding step factoryReset viewOf
   reset-acts = acts-passed (refused t) t sd _ _ ofResult _ refl (results success false _ _ (empties t sd true))
 
-  pub start-acts : Acts (step start t) (done false, record { size = viewOf t .size; dataver = viewOf t .dataver; entries = []; records = [] })
+  pub start-acts : Acts (step start t) (done false, record { size = viewOf t .size; modes = viewOf t .modes; dataver = viewOf t .dataver; entries = []; records = [] })
   unfolding step startup viewOf
   start-acts = acts-passed (refused t) t sd _ _ ofResult _ refl (results success false _ _ (empties t sd false))
 

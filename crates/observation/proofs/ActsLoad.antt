@@ -32,6 +32,7 @@ module _ (t : Table) (sd : sound t ≡ true) (image : List ℕ) (bytes : Bytes i
   restores : (i : Image) → imageIn (t .state .size) image ≡ some i
       → Shows (restored (some i) t) (record {
         size = t .state .size;
+        modes = t .state .modes;
         dataver = stepped (t .state .dataver);
         entries = i .entries;
         records = i .records;
@@ -42,7 +43,7 @@ module _ (t : Table) (sd : sound t ≡ true) (image : List ℕ) (bytes : Bytes i
       let es = restored-entries t sd i (h .entries-few) (h .fields-short) in
       let rs = restored-records t sd i (h .entries-few) (h .fields-short) (h .records-few) in
       record {
-        view = λ k. record { size = t .state .size; dataver = stepped (t .state .dataver); entries = es k; records = rs k };
+        view = λ k. record { size = t .state .size; modes = t .state .modes; dataver = stepped (t .state .dataver); entries = es k; records = rs k };
         stays = restored-sound t sd i (h .entries-few) (h .fields-short) (h .records-few) (h .keys-sound) (words-sound (i .records) (h .records-sound));
       }
 

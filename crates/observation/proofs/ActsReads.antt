@@ -26,7 +26,7 @@ use Rattle.reads.specs.declared.Transition.{Transition}
 use Rattle.reads.specs.declared.Transition.the-variants.{Stored}
 use Rattle.state.specs.Table.{Table, entriesIn}
 use Rattle.state.specs.Sound.{sound}
-use Rattle.state.specs.Capacity.{roomFor, remaining}
+use Rattle.state.specs.Capacity.{roomFor, remaining, shareMode, placesFor}
 use Rattle.state.specs.Change.{findScene}
 use Rattle.state.specs.Answer.{refused}
 use Rattle.commands.specs.Commands.{recallFound, recallScene}
@@ -37,7 +37,7 @@ use Rattle.observation.specs.Calls.{view, recall, membership, info, comm
 use Rattle.observation.specs.Equivalence.{keyIs, mine}
 use Rattle.observation.proofs.Lists.{found, has}
 use Rattle.observation.proofs.Lookups.{holds, foundAt}
-use Rattle.observation.proofs.Changes.{viewOf, roomIn, remembered}
+use Rattle.observation.proofs.Changes.{viewOf, roomIn, placesIn, remembered}
 use Rattle.observation.proofs.Effects.{gateOf, refuse, shown, viewed, applied, recalled, idsIn, remainingIn, row, infoOut}
 use Rattle.observation.proofs.Counts.{count-ext, keep-map}
 use Rattle.observation.proofs.Positions.{keep-positions}
@@ -87,6 +87,10 @@ module _ (f : ℕ) (t : Table) where
   room =
       let used = entries-count t (fabricKeys f) ∙ count-ext (holds (fabricKeys f)) (mine f) (λ x. fabric-keys f (x .key)) (entriesIn t) in
       ap₂ (λ (n k : ℕ). min ((t .state .size - 1) / 2 - n) (t .state .size - k)) used (sym (entries-length t))
+
+  pub places : placesFor (t .state) (t .slots .keys) f ≡ placesIn f (viewOf t)
+  unfolding placesFor placesIn viewOf
+  places = ap₂ (λ (n k : ℕ). cond (shareMode (t .state)) n (t .state .size - k)) room (sym (entries-length t))
 
   left : remaining (t .state) (t .slots .keys) f ≡ remainingIn f (viewOf t)
   unfolding remaining

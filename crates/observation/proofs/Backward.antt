@@ -23,13 +23,16 @@ use Rattle.observation.specs.Calls.{Command, add, view, store, info, com
 use Rattle.observation.specs.Equivalence.{keyIs, own, noticed, Same, wholeCopy, Equivalent, mine, ofFabric, seen, Agree}
 use Rattle.observation.proofs.Lists.{found, has, put}
 use Rattle.observation.proofs.Lookups.{entryOf}
-use Rattle.observation.proofs.Changes.{View, viewOf, freeIn, usedIn, currentIn, recordFitsIn, placeFor, written, invalidated, remembered}
+use Rattle.observation.proofs.Changes.{View, viewOf, usedIn, placesIn, currentIn, recordFitsIn, placeFor, written, invalidated, remembered}
 use Rattle.observation.proofs.Effects.{Seen, sees, done, refuse, timeOf, viewed, infoOut}
 use Rattle.observation.proofs.Laws.{Laws}
 use Rattle.observation.proofs.Counts.{both, count-keep, find-passes, find-counts, find-none, none-find}
 use Rattle.observation.proofs.Choices.{or-none, bit-zero, bit-same, has-count, length-put-has}
 use Rattle.observation.proofs.Bits.{key-fabric, key-scene, record-key, low-invalid}
-use Rattle.observation.proofs.Views.{entries-length, records-length}
+use Rattle.observation.proofs.Views.{records-length}
+use Rattle.observation.proofs.ActsReads.{places}
+use Rattle.observation.proofs.Places.{places-less, places-invalidated}
+use Rattle.observation.proofs.CopyViews.{used-put}
 use Rattle.observation.proofs.Invariant.{badKey, bad, FineKey, fine-entry, named-fine, key-fine}
 use Rattle.observation.proofs.Simulation.{current-invalidated, fits-invalidated, put-current}
 use Rattle.observation.proofs.Order.{scenes-perm}
@@ -189,43 +192,46 @@ module _ (laws : Laws) (f : ℕ) (f1 : 1 ≤ f) (f255 : f ≤ 255) where
 
   module _ (t : Table) (i : Standing t) (e : ℕ) (h : InRange (command f e adding)) where
     adds : sees (command f e adding) t
-        ≡ cond (placeFor (probe f e) (viewOf t)) (done true, invalidated (Scene (sceneKey f e 0 1)) (written (entryOf (sceneKey f e 0 1) 0 []) (viewOf t))) (refuse insufficientSpace, viewOf t)
+        ≡ cond (placeFor f (probe f e) (viewOf t)) (done true, invalidated (Scene (sceneKey f e 0 1)) (written (entryOf (sceneKey f e 0 1) 0 []) (viewOf t))) (refuse insufficientSpace, viewOf t)
     adds = laws .commands f e t (i .intact) hf (h .1) .add-acts 0 1 0 Yes [] [] (h .2) (add-let (sceneKey f e 0 1) (record { fabric = f1; scene = refl }) maxFields)
 
-    add-code : answer (command f e adding) t .status ≡ cond (placeFor (probe f e) (viewOf t)) 0 insufficientSpace
-    add-code = ap (λ (o : Seen). o .0 .status) adds ∙ code-place (placeFor (probe f e) (viewOf t)) _ (viewOf t)
+    add-code : answer (command f e adding) t .status ≡ cond (placeFor f (probe f e) (viewOf t)) 0 insufficientSpace
+    add-code = ap (λ (o : Seen). o .0 .status) adds ∙ code-place (placeFor f (probe f e) (viewOf t)) _ (viewOf t)
 
-    added : has (keyIs (probe f e)) (viewOf t .entries) ≡ false → ltb (length (viewOf t .entries)) (viewOf t .size) ≡ true
-        → (viewOf (next (command f e adding) t) .size ≡ viewOf t .size) × (length (viewOf (next (command f e adding) t) .entries) ≡ length (viewOf t .entries) + 1)
+    -- an add of a fresh key takes one of the fabric's places
+    added : has (keyIs (probe f e)) (viewOf t .entries) ≡ false → ltb 0 (placesIn f (viewOf t)) ≡ true
+        → suc (placesIn f (viewOf (next (command f e adding) t))) ≡ placesIn f (viewOf t)
     unfolding invalidated
     added n l =
         let x = entryOf (sceneKey f e 0 1) 0 [] in
-        let q : placeFor (probe f e) (viewOf t) ≡ true = ap₂ _||_ n l in
-        let a : sees (command f e adding) t ≡ (done true, invalidated (Scene (sceneKey f e 0 1)) (written x (viewOf t))) = rw q at adds in (
-          ap (λ (o : Seen). o .1 .size) a,
-          ap (λ (o : Seen). length (o .1 .entries)) a ∙ omega (arith, length-put-has (keyIs (probe f e)) x (viewOf t .entries), ap bit n),
-        )
+        let own = key-fabric f e 0 1 hf (h .1) (omega arith) (omega arith) in
+        let q : placeFor f (probe f e) (viewOf t) ≡ true = ap₂ _||_ n l in
+        let a : sees (command f e adding) t ≡ (done true, invalidated (Scene (sceneKey f e 0 1)) (written x (viewOf t))) = rw q at adds in
+        let longer : length (put (keyIs (probe f e)) x (viewOf t .entries)) ≡ length (viewOf t .entries) + 1 =
+        omega (arith, length-put-has (keyIs (probe f e)) x (viewOf t .entries), ap bit n) in
+        ap (λ (o : Seen). suc (placesIn f (o .1))) a
+        ∙ ap suc (places-invalidated f (written x (viewOf t)) (Scene (sceneKey f e 0 1)))
+        ∙ places-less f (viewOf t) (written x (viewOf t)) refl refl (omega (arith, used-put f x (viewOf t) own, ap bit n)) longer (ltb-true 0 (placesIn f (viewOf t)) l)
 
-  room-same : (s t : Table) → Pair f s t → ltb (length (viewOf s .entries)) (viewOf s .size) ≡ ltb (length (viewOf t .entries)) (viewOf t .size)
-  room-same s t p =
+  place-same : (s t : Table) → Pair f s t → ltb 0 (placesIn f (viewOf s)) ≡ ltb 0 (placesIn f (viewOf t))
+  place-same s t p =
       let u = unused s t p in
-      let q : placeFor (probe f (u .e)) (viewOf s) ≡ placeFor (probe f (u .e)) (viewOf t) =
-      codes (placeFor (probe f (u .e)) (viewOf s)) (placeFor (probe f (u .e)) (viewOf t))
+      let q : placeFor f (probe f (u .e)) (viewOf s) ≡ placeFor f (probe f (u .e)) (viewOf t) =
+      codes (placeFor f (probe f (u .e)) (viewOf s)) (placeFor f (probe f (u .e)) (viewOf t))
       (sym (add-code s (p .left) (u .e) (u .fits)) ∙ asks s t p (u .e) adding (u .fits) .status ∙ add-code t (p .right) (u .e) (u .fits)) in
-      sym (ap (λ (b : Bool). b || ltb (length (viewOf s .entries)) (viewOf s .size)) (u .here)) ∙ q ∙ ap (λ (b : Bool). b || ltb (length (viewOf t .entries)) (viewOf t .size)) (u .there)
+      sym (ap (λ (b : Bool). b || ltb 0 (placesIn f (viewOf s))) (u .here)) ∙ q ∙ ap (λ (b : Bool). b || ltb 0 (placesIn f (viewOf t))) (u .there)
 
-  places : (n : ℕ) (s t : Table) → Pair f s t → viewOf s .size ≡ viewOf t .size → freeIn (viewOf s) ≡ n → freeIn (viewOf s) ≡ freeIn (viewOf t)
-  places zero s t p z h =
-      let full : ltb (length (viewOf t .entries)) (viewOf t .size) ≡ false = sym (room-same s t p) ∙ le-ltb (length (viewOf s .entries)) (viewOf s .size) (omega arith) in
-      omega (arith, ltb-false (length (viewOf t .entries)) (viewOf t .size) full)
-  places (suc n) s t p z h =
-      let more : ltb (length (viewOf s .entries)) (viewOf s .size) ≡ true = lt-ltb (length (viewOf s .entries)) (viewOf s .size) (omega arith) in
-      let more′ : ltb (length (viewOf t .entries)) (viewOf t .size) ≡ true = sym (room-same s t p) ∙ more in
+  same-places : (n : ℕ) (s t : Table) → Pair f s t → placesIn f (viewOf s) ≡ n → placesIn f (viewOf s) ≡ placesIn f (viewOf t)
+  same-places zero s t p h =
+      let none-left : ltb 0 (placesIn f (viewOf t)) ≡ false = sym (place-same s t p) ∙ le-ltb 0 (placesIn f (viewOf s)) (omega arith) in
+      omega (arith, ltb-false 0 (placesIn f (viewOf t)) none-left)
+  same-places (suc n) s t p h =
+      let more : ltb 0 (placesIn f (viewOf s)) ≡ true = lt-ltb 0 (placesIn f (viewOf s)) (omega arith) in
       let u = unused s t p in
       let gs = added s (p .left) (u .e) (u .fits) (u .here) more in
-      let gt = added t (p .right) (u .e) (u .fits) (u .there) more′ in
-      let ih = places n (next (command f (u .e) adding) s) (next (command f (u .e) adding) t) (moves s t p (u .e) adding (u .fits) refl) (gs .0 ∙ z ∙ sym (gt .0)) (omega (arith, gs .0, gs .1)) in
-      omega (arith, ih, gs .0, gs .1, gt .0, gt .1, ltb-true (length (viewOf t .entries)) (viewOf t .size) more′)
+      let gt = added t (p .right) (u .e) (u .fits) (u .there) (sym (place-same s t p) ∙ more) in
+      let ih = same-places n (next (command f (u .e) adding) s) (next (command f (u .e) adding) t) (moves s t p (u .e) adding (u .fits) refl) (omega (arith, gs)) in
+      sym gs ∙ ap suc ih ∙ gt
 
   -- ---- a store, then info: where there is a place, it tells whether a record fits
 
@@ -249,7 +255,7 @@ module _ (laws : Laws) (f : ℕ) (f1 : 1 ≤ f) (f255 : f ≤ 255) where
         λ b. elim b [ true ↦ put-current key fine own-key (v .records) | false ↦ n ] in
         ap (λ (b : Bool). find (ofFabric f) (cond (b || recordFitsIn v) (put (ofFabric f) (validRecord key) (v .records)) (v .records))) (ap found n) ∙ go (recordFitsIn v)
 
-    stored : (t : Table) → Standing t → currentIn f (viewOf t) ≡ none → placeFor (wordOf key) (viewOf t) ≡ true
+    stored : (t : Table) → Standing t → currentIn f (viewOf t) ≡ none → placeFor f (wordOf key) (viewOf t) ≡ true
         → currentIn f (viewOf (next (command f e storing) t)) ≡ cond (recordFitsIn (viewOf t)) (some (validRecord key)) none
     stored t i n q =
         let x = entryOf key (timeOf (find (keyIs (wordOf key)) (viewOf t .entries))) ([] ++ (endOfContainer ∷ [])) in
@@ -260,7 +266,7 @@ module _ (laws : Laws) (f : ℕ) (f1 : 1 ≤ f) (f255 : f ≤ 255) where
         ap (λ (o : Seen). currentIn f (o .1)) a ∙ current-remembered u c ∙ ap (λ (b : Bool). cond b (some (validRecord key)) none) (fits-invalidated (Scene key) (written x (viewOf t)))
 
     tells : (s t : Table) → Pair f s t → currentIn f (viewOf s) ≡ none → currentIn f (viewOf t) ≡ none
-        → placeFor (wordOf key) (viewOf s) ≡ true → placeFor (wordOf key) (viewOf t) ≡ true → recordFitsIn (viewOf s) ≡ recordFitsIn (viewOf t)
+        → placeFor f (wordOf key) (viewOf s) ≡ true → placeFor f (wordOf key) (viewOf t) ≡ true → recordFitsIn (viewOf s) ≡ recordFitsIn (viewOf t)
     tells s t p ns nt ps pt =
         let r = records (next (command f e storing) s) (next (command f e storing) t) (moves s t p e storing (hf, he, (hg, hs, refl)) refl) .scene in
         let part : Option ℕ → ℕ = told (λ w. sceneOf (keyOfRecord w)) in
@@ -272,15 +278,15 @@ module _ (laws : Laws) (f : ℕ) (f1 : 1 ≤ f) (f255 : f ≤ 255) where
         same (recordFitsIn (viewOf s)) (recordFitsIn (viewOf t))
         (sym (scene (recordFitsIn (viewOf s))) ∙ ap part (sym (stored s (p .left) ns ps)) ∙ r ∙ ap part (stored t (p .right) nt pt) ∙ scene (recordFitsIn (viewOf t)))
 
-  oneMore : (s t : Table) → Pair f s t → currentIn f (viewOf s) ≡ none → 0 < usedIn f (viewOf s) + freeIn (viewOf s) → recordFitsIn (viewOf s) ≡ recordFitsIn (viewOf t)
+  oneMore : (s t : Table) → Pair f s t → currentIn f (viewOf s) ≡ none → 0 < usedIn f (viewOf s) + placesIn f (viewOf s) → recordFitsIn (viewOf s) ≡ recordFitsIn (viewOf t)
   oneMore s t p n alive =
       let es = viewOf s .entries in
       let m : currentIn f (viewOf t) ≡ none = no-record (currentIn f (viewOf s)) (currentIn f (viewOf t)) (recorded s t p) n in
       (elim (find (mine f) es) as (λ o. find (mine f) es ≡ o → recordFitsIn (viewOf s) ≡ recordFitsIn (viewOf t)) [
         | none ↦ λ z.
             let u = unused s t p in
-            let more : ltb (length es) (viewOf s .size) ≡ true = lt-ltb (length es) (viewOf s .size) (omega (arith, find-none (mine f) es z)) in
-            tells (u .e) 0 1 (u .fits .1) (omega arith) (omega arith) refl s t p n m (ap₂ _||_ (u .here) more) (ap₂ _||_ (u .there) (sym (room-same s t p) ∙ more))
+            let more : ltb 0 (placesIn f (viewOf s)) ≡ true = lt-ltb 0 (placesIn f (viewOf s)) (omega (arith, find-none (mine f) es z)) in
+            tells (u .e) 0 1 (u .fits .1) (omega arith) (omega arith) refl s t p n m (ap₂ _||_ (u .here) more) (ap₂ _||_ (u .there) (sym (place-same s t p) ∙ more))
         | some x ↦ λ z.
             let k = x .key in
             let mineX : fabricOf k ≡ f = eqb-true (fabricOf k) f (find-passes (mine f) es x z) in
@@ -288,24 +294,24 @@ module _ (laws : Laws) (f : ℕ) (f1 : 1 ≤ f) (f255 : f ≤ 255) where
             let here : has (keyIs k) es ≡ true = has-count (keyIs k) es (omega (arith, find-counts (keyIs k) (mine f) es x z, ap bit (eq-eqb k k refl))) in
             let there : has (keyIs k) (viewOf t .entries) ≡ true = sym (ap found (finds s t p k mineX)) ∙ here in
             tells (q .e) (q .g) (q .s) (q .he) (q .hg) (q .hs) (q .plain) s t p n m
-            (subst (λ (w : ℕ). placeFor w (viewOf s) ≡ true) (q .is) (ap (λ (b : Bool). b || ltb (length es) (viewOf s .size)) here))
-            (subst (λ (w : ℕ). placeFor w (viewOf t) ≡ true) (q .is) (ap (λ (b : Bool). b || ltb (length (viewOf t .entries)) (viewOf t .size)) there))
+            (subst (λ (w : ℕ). placeFor f w (viewOf s) ≡ true) (q .is) (ap (λ (b : Bool). b || ltb 0 (placesIn f (viewOf s))) here))
+            (subst (λ (w : ℕ). placeFor f w (viewOf t) ≡ true) (q .is) (ap (λ (b : Bool). b || ltb 0 (placesIn f (viewOf t))) there))
       ]) refl
 
   -- ---- the four matters
 
-  pub agree : (s t : Table) → Standing s → Standing t → s .state .size ≡ t .state .size → Equivalent f s t → Agree f s t
+  pub agree : (s t : Table) → Standing s → Standing t → Equivalent f s t → Agree f s t
   unfolding viewOf
-  agree s t i j z see =
+  agree s t i j see =
       let p : Pair f s t = record { left = i; right = j; see = see } in
       let fits : (u : Table) → sound u ≡ true → recordFitsIn (viewOf u) ≡ ltb (u .state .recorded) (u .state .size) =
       λ u S. ap (λ (n : ℕ). ltb n (u .state .size)) (records-length u S) in
       record {
-        places = omega (arith, places (freeIn (viewOf s)) s t p z refl, entries-length s, entries-length t);
+        places = places f s ∙ same-places (placesIn f (viewOf s)) s t p refl ∙ sym (places f t);
         scenes = scenes-perm (keep (mine f) (entriesIn s)) (keep (mine f) (entriesIn t)) (λ q.
             count-keep q (mine f) (entriesIn s)
             ∙ counts f (entriesIn s) (entriesIn t) (i .inv .good) (j .inv .good) (finds s t p) (λ x. mine f x && q x) (λ x e. both (mine f x) (q x) e .0)
             ∙ sym (count-keep q (mine f) (entriesIn t)));
         recorded = recorded s t p;
-        oneMore = λ n h. sym (fits s (i .intact)) ∙ oneMore s t p n (omega (arith, h, entries-length s)) ∙ fits t (j .intact);
+        oneMore = λ n h. sym (fits s (i .intact)) ∙ oneMore s t p n (omega (arith, h, places f s)) ∙ fits t (j .intact);
       }

@@ -4,7 +4,7 @@ use Prim.Native.Nat.{ℕ, _+_, _-_, _/_, _%_, _^_, min}
 use mathlib.Core.Bool.{Bool, true, false, cond, _||_}
 use mathlib.Core.List.{List, [], _∷_, map}
 use mathlib.Core.Option.{Option}
-use lib.Dec.{ltb}
+use lib.Dec.{eqb, ltb}
 use lib.ListN.{length}
 use Rattle.words.specs.Words.{validRecord}
 use Rattle.words.specs.declared.SceneKey.{SceneKey}
@@ -18,12 +18,13 @@ use Rattle.observation.proofs.Lists.{has, put}
 
 pub record View : Type 0 where
   pub size : ℕ
+  pub modes : ℕ
   pub dataver : ℕ
   pub entries : List SceneEntry
   pub records : List ℕ
 
 unfoldable pub viewOf : Table → View
-viewOf t = record { size = t .state .size; dataver = t .state .dataver; entries = entriesIn t; records = recordsIn t }
+viewOf t = record { size = t .state .size; modes = t .state .modes; dataver = t .state .dataver; entries = entriesIn t; records = recordsIn t }
 
 -- ---- what is read off a view
 
@@ -33,9 +34,17 @@ freeIn v = v .size - length (v .entries)
 abbrev pub usedIn : ℕ → View → ℕ
 usedIn f v = count (mine f) (v .entries)
 
--- what a fabric may still copy, not cut to a byte
+-- what a fabric may still copy, not cut
 unfoldable pub roomIn : ℕ → View → ℕ
 roomIn f v = min ((v .size - 1) / 2 - usedIn f v) (freeIn v)
+
+-- in share mode
+abbrev pub shareIn : View → Bool
+shareIn v = eqb (v .modes % 2) 1
+
+-- what a fabric may still add
+unfoldable pub placesIn : ℕ → View → ℕ
+placesIn f v = cond (shareIn v) (roomIn f v) (freeIn v)
 
 abbrev pub currentIn : ℕ → View → Option ℕ
 currentIn f v = find (ofFabric f) (v .records)
@@ -43,9 +52,9 @@ currentIn f v = find (ofFabric f) (v .records)
 abbrev pub recordFitsIn : View → Bool
 recordFitsIn v = ltb (length (v .records)) (v .size)
 
--- an upsert of a key word succeeds
-abbrev pub placeFor : ℕ → View → Bool
-placeFor k v = has (keyIs k) (v .entries) || ltb (length (v .entries)) (v .size)
+-- a fabric's upsert of a key word succeeds
+abbrev pub placeFor : ℕ → ℕ → View → Bool
+placeFor f k v = has (keyIs k) (v .entries) || ltb 0 (placesIn f v)
 
 -- ---- changes
 
@@ -53,7 +62,7 @@ abbrev pub stepped : ℕ → ℕ
 stepped n = (n + 1) % 2 ^ 32
 
 abbrev pub entriesSet : List SceneEntry → View → View
-entriesSet es v = record { size = v .size; dataver = v .dataver; entries = es; records = v .records }
+entriesSet es v = record { size = v .size; modes = v .modes; dataver = v .dataver; entries = es; records = v .records }
 
 -- an entry over the one with its key, or at the end
 abbrev pub written : SceneEntry → View → View
@@ -62,6 +71,7 @@ written x v = entriesSet (put (keyIs (x .key)) x (v .entries)) v
 unfoldable pub invalidated : Scope → View → View
 invalidated scope v = record {
   size = v .size;
+  modes = v .modes;
   dataver = cond (has (hits scope) (v .records)) (stepped (v .dataver)) (v .dataver);
   entries = v .entries;
   records = map (cleared scope) (v .records);
@@ -70,6 +80,7 @@ invalidated scope v = record {
 unfoldable pub remembered : SceneKey → View → View
 remembered key v = record {
   size = v .size;
+  modes = v .modes;
   dataver = stepped (v .dataver);
   entries = v .entries;
   records = cond (has (ofFabric (key .fabric)) (v .records) || recordFitsIn v) (put (ofFabric (key .fabric)) (validRecord key) (v .records)) (v .records);

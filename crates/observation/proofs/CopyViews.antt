@@ -1,5 +1,5 @@
 -- Writes in turn: whether they all fit, and what they leave, as counts that do not depend on their order. Assumes nothing.
-use Prim.Native.Nat.{ℕ, suc, _+_, _-_, _/_, _≤_, _<_, min}
+use Prim.Native.Nat.{ℕ, _+_, _-_, _/_, _≤_, _<_, min}
 use native.Mathlib.Omega.{arith}
 use mathlib.Core.Path.{_≡_, refl, sym, ap, ap₂, _∙_, subst, subst₂}
 use mathlib.Core.Bool.{Bool, true, false, cond, not, _&&_, _||_, false≢true}
@@ -14,11 +14,12 @@ use Rattle.slots.specs.Slots.{SceneEntry}
 use Rattle.observation.specs.Lists.{bit, count, find}
 use Rattle.observation.specs.Equivalence.{keyIs, mine}
 use Rattle.observation.proofs.Lists.{found, has, put, Often}
-use Rattle.observation.proofs.Changes.{View, usedIn, roomIn, entriesSet, written, writtenAll}
+use Rattle.observation.proofs.Changes.{View, usedIn, roomIn, placesIn, entriesSet, written, writtenAll}
 use Rattle.observation.proofs.Counts.{both, count-ext, count-le, count-or, opt, count-put, find-passes, length-put}
 use Rattle.observation.proofs.Choices.{or-none, bit-zero, count-none, has-same, length-put-has}
-use Rattle.observation.proofs.Invariant.{bad, Good, Inv, put-good, room-free, writtenAll-inv}
-use Rattle.observation.proofs.Simulation.{Sim, key-within, sim-find, sim-room, sim-entries}
+use Rattle.observation.proofs.Places.{room-less, room-free, room-places, Changed}
+use Rattle.observation.proofs.Invariant.{bad, Good, Inv, put-good, writtenAll-inv}
+use Rattle.observation.proofs.Simulation.{Sim, key-within, used-found, sim-find, sim-room, sim-entries}
 
 -- where one passes h at most, those that pass h and q are the one found, if it passes q
 count-once : {A : Type 0} (h q : A → Bool) (xs : List A) → count h xs ≤ 1 → count (λ x. h x && q x) xs ≡ opt q (find h xs)
@@ -86,14 +87,11 @@ has-put x es k n =
     go none e = refl
     go (some y) e = ap (λ (w : ℕ). bit (eqb w k)) (eqb-true (y .key) (x .key) (find-passes (keyIs (x .key)) es y e)) ∙ ap bit n
 
-used-put : (f : ℕ) (x : SceneEntry) (v : View) → fabricOf (x .key) ≡ f → usedIn f (written x v) + bit (has (keyIs (x .key)) (v .entries)) ≡ usedIn f v + 1
+pub used-put : (f : ℕ) (x : SceneEntry) (v : View) → fabricOf (x .key) ≡ f → usedIn f (written x v) + bit (has (keyIs (x .key)) (v .entries)) ≡ usedIn f v + 1
 used-put f x v h =
     omega (arith, length-put (mine f) (keyIs (x .key)) x (eq-eqb (fabricOf (x .key)) f h) (key-within f (x .key) h) (v .entries), length-put-has (keyIs (x .key)) x (v .entries))
 
 -- ---- whether they all fit
-
-room-less : (a u n l : ℕ) → 0 < min (a - u) (n - l) → suc (min (a - (u + 1)) (n - (l + 1))) ≡ min (a - u) (n - l)
-room-less a u n l h = omega arith
 
 -- exactly when the new ones fit the room
 copies : (f : ℕ) (xs : List SceneEntry) (v : View) → AllMine f xs → Apart xs → length (v .entries) ≤ v .size → writtenAll f xs v .0 ≡ leb (count (new v) xs) (roomIn f v)
@@ -176,6 +174,31 @@ copied-length f (x ∷ xs) v m =
     elim (has (keyIs (x .key)) (v .entries) || ltb 0 (roomIn f v)) as (λ b. length (cond b (writtenAll f xs (written x v)) (false, v) .1 .entries) + usedIn f v ≡ length (v .entries) + usedIn f (cond b (writtenAll f xs (written x v)) (false, v) .1))
     [ true ↦ omega (arith, lp, copied-length f xs (written x v) (omega arith)) | false ↦ refl ]
 
+-- the first needs a scene with its key or room, so the fabric had a scene or a place
+copied-alive : (f : ℕ) (xs : List SceneEntry) (v : View) → AllMine f xs → 0 < usedIn f (writtenAll f xs v .1) → 0 < usedIn f v + placesIn f v
+unfolding writtenAll
+copied-alive f [] v m h = omega arith
+copied-alive f (x ∷ xs) v m h =
+    let own : fabricOf (x .key) ≡ f = mine-of f x (count (λ y. not (mine f y)) xs) m in
+    let here = has (keyIs (x .key)) (v .entries) in
+    let more = ltb 0 (roomIn f v) in
+    (elim here as (λ b. here ≡ b → 0 < usedIn f (cond (b || more) (writtenAll f xs (written x v)) (false, v) .1) → 0 < usedIn f v + placesIn f v) [
+      | true ↦ λ e _. omega (arith, used-found f (x .key) v own e)
+      | false ↦ λ _.
+          (elim more as (λ b. more ≡ b → 0 < usedIn f (cond b (writtenAll f xs (written x v)) (false, v) .1) → 0 < usedIn f v + placesIn f v) [
+            | true ↦ λ e _. omega (arith, ltb-true 0 (roomIn f v) e, room-places f v)
+            | false ↦ λ _ k. omega arith
+          ]) refl
+    ]) refl h
+
+-- what they change
+copied-changed : (f : ℕ) (xs : List SceneEntry) (v : View) → Inv v → AllMine f xs → count bad xs ≡ 0 → Changed f (writtenAll f xs v .1 .entries) v
+copied-changed f xs v i m nb = record {
+  own = copied-length f xs v m;
+  before = i .room;
+  after = subst (λ (u : View). length (writtenAll f xs v .1 .entries) ≤ u .size) (copied-with f xs v) (writtenAll-inv f xs v nb i .room);
+}
+
 -- ---- in two views alike to the fabric, the same entries in any order
 
 module _ (f : ℕ) (v w : View) (i : Inv v) (j : Inv w) (a : Sim f v w) (xs ys : List SceneEntry) (often : Often xs ys) (tx : Targets f xs) (ty : Targets f ys) where
@@ -188,8 +211,6 @@ module _ (f : ℕ) (v w : View) (i : Inv v) (j : Inv w) (a : Sim f v w) (xs ys :
   pub copied-sim : writtenAll f xs v .0 ≡ true → Sim f (writtenAll f xs v .1) (writtenAll f ys w .1)
   copied-sim ok =
       let hits : (e : SceneEntry) → hit xs e ≡ hit ys e = λ e. has-same (λ x. eqb (e .key) (x .key)) xs ys (often (λ x. eqb (e .key) (x .key))) in
-      let r : length (writtenAll f xs v .1 .entries) ≤ v .size =
-      subst (λ (u : View). length (writtenAll f xs v .1 .entries) ≤ u .size) (copied-with f xs v) (writtenAll-inv f xs v (tx .fine) i .room) in
       subst₂ (Sim f) (sym (copied-with f xs v)) (sym (copied-with f ys w))
       (sim-entries f v w a (writtenAll f xs v .1 .entries) (writtenAll f ys w .1 .entries)
       (λ q z.
@@ -197,4 +218,4 @@ module _ (f : ℕ) (v w : View) (i : Inv v) (j : Inv w) (a : Sim f v w) (xs ys :
       count-ext (λ e. q e && hit xs e) (λ e. q e && hit ys e) (λ e. ap (λ (b : Bool). q e && b) (hits e)) (v .entries)
       ∙ a .scenes (λ e. q e && hit ys e) (λ e k. z e (both (q e) (hit ys e) k .0)) in
       omega (arith, old, often q, a .scenes q z, copied-counts f xs v q (tx .apart) (i .good) (tx .fine) ok, copied-counts f ys w q (ty .apart) (j .good) (ty .fine) (sym copies-same ∙ ok)))
-      (copied-length f xs v (tx .own)) (copied-length f ys w (ty .own)) (i .room) r)
+      (copied-changed f xs v i (tx .own) (tx .fine)) (copied-changed f ys w j (ty .own) (ty .fine)) (copied-alive f xs v (tx .own)))

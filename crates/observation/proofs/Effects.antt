@@ -79,7 +79,7 @@ recalled o a (some x) = record { status = cond (applied a) success applyFailed; 
 
 abbrev pub addOut : SceneKey → ℕ → List ℕ → View → Seen
 addOut key time ext v =
-    cond (placeFor (wordOf key) v) (done true, invalidated (Scene key) (written (entryOf key time ext) v)) (refuse insufficientSpace, v)
+    cond (placeFor (key .fabric) (wordOf key) v) (done true, invalidated (Scene key) (written (entryOf key time ext) v)) (refuse insufficientSpace, v)
 
 -- ---- copies
 
@@ -129,7 +129,7 @@ infoOut f e v =
 -- by whether it clashes
 abbrev pub loadedBy : Bool → Image → View → Seen
 loadedBy true i v = (refuse clashingImage, v)
-loadedBy false i v = (done false, record { size = v .size; dataver = stepped (v .dataver); entries = i .entries; records = i .records })
+loadedBy false i v = (done false, record { size = v .size; modes = v .modes; dataver = stepped (v .dataver); entries = i .entries; records = i .records })
 
 -- what a load makes of what the bytes are read as
 abbrev pub decoded : Option Image → View → Seen
@@ -138,7 +138,7 @@ decoded (some i) v = loadedBy (clashes i) i v
 
 -- a startup without a saved table
 abbrev pub started : View → Seen
-started v = (done false, record { size = v .size; dataver = v .dataver; entries = []; records = [] })
+started v = (done false, record { size = v .size; modes = v .modes; dataver = v .dataver; entries = []; records = [] })
 
 -- no bytes are such a startup
 abbrev pub loaded : List ℕ → View → Seen

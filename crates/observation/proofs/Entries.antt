@@ -33,6 +33,7 @@ use Rattle.observation.proofs.Views.{entries-length}
 -- u is t with other entries
 pub record EntriesOnly (u t : Table) : Type 0 where
   pub size : u .state .size ≡ t .state .size
+  pub modes : u .state .modes ≡ t .state .modes
   pub dataver : u .state .dataver ≡ t .state .dataver
   pub records : recordsIn u ≡ recordsIn t
 
@@ -210,16 +211,16 @@ module _ (t : Table) (sd : sound t ≡ true) (r : KeyRange) where
 module _ (t : Table) where
   pub put-only : (p : ℕ) (key : SceneKey) (time : ℕ) (ext : List ℕ) → EntriesOnly (withEntries (putAt p key time ext) t) t
   unfolding putAt recordsIn
-  put-only p key time ext = record { size = refl; dataver = refl; records = refl }
+  put-only p key time ext = record { size = refl; modes = refl; dataver = refl; records = refl }
 
   pub append-only : (key : SceneKey) (time : ℕ) (ext : List ℕ) → EntriesOnly (withEntries (append key time ext) t) t
   unfolding append recordsIn
-  append-only key time ext = record { size = refl; dataver = refl; records = refl }
+  append-only key time ext = record { size = refl; modes = refl; dataver = refl; records = refl }
 
   pub removed-only : (p : ℕ) → EntriesOnly (withEntries (swapRemove p) t) t
   unfolding swapRemove recordsIn
-  removed-only p = record { size = refl; dataver = refl; records = refl }
+  removed-only p = record { size = refl; modes = refl; dataver = refl; records = refl }
 
   pub retained-only : (r : KeyRange) → EntriesOnly (withEntries (retainOutside r) t) t
   unfolding retainOutside recordsIn
-  retained-only r = record { size = refl; dataver = refl; records = refl }
+  retained-only r = record { size = refl; modes = refl; dataver = refl; records = refl }

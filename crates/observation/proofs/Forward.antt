@@ -13,6 +13,7 @@ use Rattle.slots.specs.Slots.{SceneEntry}
 use Rattle.records.specs.declared.Scope.the-variants.{Endpoint}
 use Rattle.state.specs.Table.{Table, entriesIn}
 use Rattle.state.specs.Sound.{sound}
+use Rattle.state.specs.Capacity.{shareMode}
 use Rattle.observation.specs.Lists.{count, keep}
 use Rattle.observation.specs.Calls.{Command, command, notice, answer, next, CommandInRange}
 use Rattle.observation.specs.Equivalence.{Event, own, noticed, wholeCopy, unless, Alike, AllInRange, mine, Agree}
@@ -21,7 +22,8 @@ use Rattle.observation.proofs.Effects.{Seen, sees}
 use Rattle.observation.proofs.Laws.{Laws}
 use Rattle.observation.proofs.Counts.{count-ext, count-keep}
 use Rattle.observation.proofs.Choices.{or-none}
-use Rattle.observation.proofs.Views.{entries-length, records-length}
+use Rattle.observation.proofs.Views.{records-length}
+use Rattle.observation.proofs.ActsReads.{places}
 use Rattle.observation.proofs.Simulation.{Within, Sim, sim-invalidated, endpoint-seen}
 use Rattle.observation.proofs.Order.{perm-often}
 use Rattle.observation.proofs.Respond.{Kept}
@@ -67,17 +69,17 @@ own-count f q w es =
     (elim (q x) as (λ b. q x ≡ b → b ≡ (mine f x && b)) [ true ↦ λ e. sym (ap (λ (b : Bool). b && true) (w x e)) | false ↦ λ _. sym (and-false (mine f x)) ]) refl) es
     ∙ sym (count-keep q (mine f) es)
 
-pub sim-of : (f : ℕ) (s t : Table) → Standing s → Standing t → s .state .size ≡ t .state .size → Agree f s t → Sim f (viewOf s) (viewOf t)
+pub sim-of : (f : ℕ) (s t : Table) → Standing s → Standing t → s .state .size ≡ t .state .size → shareMode (s .state) ≡ shareMode (t .state) → Agree f s t
+    → Sim f (viewOf s) (viewOf t)
 unfolding viewOf
-sim-of f s t i j z a =
-    let ls = entries-length s in
-    let lt = entries-length t in
+sim-of f s t i j z m a =
     let fits : (u : Table) → sound u ≡ true → ltb (length (viewOf u .records)) (viewOf u .size) ≡ ltb (u .state .recorded) (u .state .size) =
     λ u S. ap (λ (n : ℕ). ltb n (u .state .size)) (records-length u S) in
     record {
       size = z;
-      full = omega (arith, a .places, i .inv .room, j .inv .room, ls, lt);
+      share = m;
+      places = sym (places f s) ∙ a .places ∙ places f t;
       scenes = λ q w. own-count f q w (entriesIn s) ∙ perm-often (a .scenes) q ∙ sym (own-count f q w (entriesIn t));
       recorded = a .recorded;
-      oneMore = λ n h. fits s (i .intact) ∙ a .oneMore n (omega (arith, h, ls)) ∙ sym (fits t (j .intact));
+      oneMore = λ n h. fits s (i .intact) ∙ a .oneMore n (omega (arith, h, places f s)) ∙ sym (fits t (j .intact));
     }

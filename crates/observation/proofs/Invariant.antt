@@ -20,9 +20,10 @@ use Rattle.observation.specs.Lists.{bit, count, keep}
 use Rattle.observation.specs.Calls.{sceneKey}
 use Rattle.observation.specs.Equivalence.{keyIs, mine, ofFabric}
 use Rattle.observation.proofs.Lists.{has, put, takeOut}
-use Rattle.observation.proofs.Changes.{View, roomIn, recordFitsIn, placeFor, entriesSet, written, invalidated, remembered, writtenAll}
+use Rattle.observation.proofs.Changes.{View, roomIn, placesIn, recordFitsIn, placeFor, entriesSet, written, invalidated, remembered, writtenAll}
 use Rattle.observation.proofs.Counts.{count-ext, count-put, count-takeOut, count-map}
 use Rattle.observation.proofs.Choices.{cond-elim, or-none, or-other, bit-zero, count-less, count-keep-le, length-put-has, less-keep, put-once}
+use Rattle.observation.proofs.Places.{room-free}
 use Rattle.observation.proofs.Bits.{key-fabric, key-scene, key-small, record-key, low-key, cleared-key}
 
 -- ---- words
@@ -127,8 +128,8 @@ pub record Inv (v : View) : Type 0 where
   pub one : (f : ℕ) → count (ofFabric f) (v .records) ≤ 1
   pub records : count badRecord (v .records) ≡ 0
 
-pub empty-inv : (n d : ℕ) → n ≤ maxScenes → Inv (record { size = n; dataver = d; entries = []; records = [] })
-empty-inv n d h = record { small = h; room = zero-le; held = zero-le; good = record { once = λ k. zero-le; fine = refl }; one = λ f. zero-le; records = refl }
+pub empty-inv : (n m d : ℕ) → n ≤ maxScenes → Inv (record { size = n; modes = m; dataver = d; entries = []; records = [] })
+empty-inv n m d h = record { small = h; room = zero-le; held = zero-le; good = record { once = λ k. zero-le; fine = refl }; one = λ f. zero-le; records = refl }
 
 -- entries that fit
 pub entries-inv : (es : List SceneEntry) (v : View) → length es ≤ v .size → Good es → Inv v → Inv (entriesSet es v)
@@ -146,8 +147,8 @@ put-room x v place r =
       | false ↦ λ e. omega (arith, length-put-has (keyIs (x .key)) x (v .entries), ap bit e, place e)
     ]) refl
 
-pub placed : (k : ℕ) (v : View) → placeFor k v ≡ true → has (keyIs k) (v .entries) ≡ false → length (v .entries) < v .size
-placed k v e n = ltb-true (length (v .entries)) (v .size) (or-other (has (keyIs k) (v .entries)) (ltb (length (v .entries)) (v .size)) e n)
+pub placed : (f k : ℕ) (v : View) → placeFor f k v ≡ true → has (keyIs k) (v .entries) ≡ false → 0 < placesIn f v
+placed f k v e n = ltb-true 0 (placesIn f v) (or-other (has (keyIs k) (v .entries)) (ltb 0 (placesIn f v)) e n)
 
 pub written-inv : (x : SceneEntry) (v : View) → bad x ≡ false → (has (keyIs (x .key)) (v .entries) ≡ false → length (v .entries) < v .size) → Inv v → Inv (written x v)
 written-inv x v nb place i = entries-inv (put (keyIs (x .key)) x (v .entries)) v (put-room x v place (i .room)) (put-good x (v .entries) nb (i .good)) i
@@ -216,10 +217,6 @@ module _ (key : SceneKey) (fine : FineKey (wordOf key)) (own : fabricOf (wordOf 
 
 -- ---- writes in turn
 
-pub room-free : (f : ℕ) (v : View) → 0 < roomIn f v → length (v .entries) < v .size
-unfolding roomIn
-room-free f v h = omega arith
-
 pub writtenAll-inv : (f : ℕ) (xs : List SceneEntry) (v : View) → count bad xs ≡ 0 → Inv v → Inv (writtenAll f xs v .1)
 unfolding writtenAll
 writtenAll-inv f [] v nb i = i
@@ -234,7 +231,7 @@ writtenAll-inv f (x ∷ xs) v nb i =
 
 -- a fabric's entries and records gone
 pub dropped-inv : (d f : ℕ) (v : View) → Inv v
-    → Inv (record { size = v .size; dataver = d; entries = keep (λ x. not (mine f x)) (v .entries); records = keep (λ w. not (ofFabric f w)) (v .records) })
+    → Inv (record { size = v .size; modes = v .modes; dataver = d; entries = keep (λ x. not (mine f x)) (v .entries); records = keep (λ w. not (ofFabric f w)) (v .records) })
 dropped-inv d f v i = record {
   small = i .small;
   room = omega (arith, less-keep (λ x. not (mine f x)) (v .entries), i .room);

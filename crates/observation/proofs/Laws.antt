@@ -43,7 +43,7 @@ pub record CommandLaws (f e : ℕ) (t : Table) (v : View) : Type 0 where
       (done false, v)
   pub store-acts : (g s : ℕ) (m : Membership) (captured : List ℕ) → CommandInRange (store g s m captured) → gateOf f e (store g s m captured) ≡ 0
       → sees (command f e (store g s m captured)) t
-      ≡ cond (placeFor (wordOf (sceneKey f e g s)) v) (
+      ≡ cond (placeFor f (wordOf (sceneKey f e g s)) v) (
         done true,
         remembered (sceneKey f e g s)
             (invalidated (Scene (sceneKey f e g s))
@@ -76,12 +76,13 @@ pub record EventLaws (t : Table) (v : View) : Type 0 where
         done (has (mine f) (v .entries) || has (ofFabric f) (v .records)),
         record {
           size = v .size;
+          modes = v .modes;
           dataver = cond (has (mine f) (v .entries) || has (ofFabric f) (v .records)) (stepped (v .dataver)) (v .dataver);
           entries = keep (λ x. not (mine f x)) (v .entries);
           records = keep (λ w. not (ofFabric f w)) (v .records);
         },
       )
-  pub reset-acts : sees reset t ≡ (done false, record { size = v .size; dataver = stepped (v .dataver); entries = []; records = [] })
+  pub reset-acts : sees reset t ≡ (done false, record { size = v .size; modes = v .modes; dataver = stepped (v .dataver); entries = []; records = [] })
   pub start-acts : sees start t ≡ started v
   pub failSafe-acts : sees failSafeEvent t ≡ (done false, v)
   pub load-acts : (image : List ℕ) → Bytes image → sees (load image) t ≡ loaded image v

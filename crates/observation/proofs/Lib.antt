@@ -5,7 +5,7 @@
 -- what each change leaves of the views, and that the table stays sound.
 -- Calls: `Effects` and `Laws` say what each call does, over views; `Acts` and its kin prove it of the definitions, with
 -- `Losses`; `Calls` has all of it.
--- The equivalence: `Invariant` and `Simulation` are about views alone, with `Bits`, `Choices`, `Order` and `CopyViews`; `Passed` has
+-- The equivalence: `Invariant` and `Simulation` are about views alone, with `Bits`, `Choices`, `Places`, `Order` and `CopyViews`; `Passed` has
 -- requests that are let through. `Respond` and `RespondCopy` say that commands keep both, `Probes` what tells two views apart. `Reach`, `Forward` and
 -- `Backward` bring this to tables, and `Theorem` has the theorems.
 -- What follows: `Readings` has counterexamples to nearby readings, `Removal` what a fabric's removal leaves, `Numbers` the numbers that
@@ -35,6 +35,7 @@ pub mod ActsLoad
 pub mod Calls
 pub mod Choices
 pub mod Bits
+pub mod Places
 pub mod Invariant
 pub mod Simulation
 pub mod Order
@@ -50,6 +51,7 @@ pub mod Theorem
 pub mod Numbers
 pub mod Unsound
 pub mod Refusals
+pub mod Modes
 pub mod Midway
 pub mod Readings
 pub mod Removal

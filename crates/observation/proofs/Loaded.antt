@@ -142,9 +142,9 @@ module _ (rs : List ℕ) (unclashed : recordsClash rs ≡ false) where
 
 -- ---- the view
 
-pub loaded-inv : (n d : ℕ) (image : List ℕ) (i : Image) → n ≤ maxScenes → Bytes image → imageIn n image ≡ some i → clashes i ≡ false
-    → Inv (record { size = n; dataver = d; entries = i .entries; records = i .records })
-loaded-inv n d image i small bytes e c =
+pub loaded-inv : (n m d : ℕ) (image : List ℕ) (i : Image) → n ≤ maxScenes → Bytes image → imageIn n image ≡ some i → clashes i ≡ false
+    → Inv (record { size = n; modes = m; dataver = d; entries = i .entries; records = i .records })
+loaded-inv n m d image i small bytes e c =
     let h = image-decoded image (bytes-below image bytes) n i e in
     let ks = neither-left (keysClash (keysOf i)) (recordsClash (i .records)) c in
     let ws = neither-right (keysClash (keysOf i)) (recordsClash (i .records)) c in

@@ -99,7 +99,7 @@ module _ (P : ℕ → Type 0) (done : P success) where
     where
       go : (f : Found) → P (upsertAt f key time ext t .status)
       go (At i) = done
-      go Nothing = either (λ (u : Upserted). P (u .status)) (mayAppend (t .state) (key .fabric)) done full
+      go Nothing = either (λ (u : Upserted). P (u .status)) (mayAppend (t .state) (t .slots .keys) (key .fabric)) done full
 
   stored-is : (key : SceneKey) (u : Upserted) → P (u .status) → P (stored key u .status)
   unfolding stored

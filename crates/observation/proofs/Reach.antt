@@ -79,11 +79,11 @@ decoded-inv image v bytes inv none e = inv
 decoded-inv image v bytes inv (some i) e =
     (elim (clashes i) as (λ b. clashes i ≡ b → Inv (loadedBy b i v .1)) [
       | true ↦ λ q. inv
-      | false ↦ λ q. loaded-inv (v .size) (stepped (v .dataver)) image i (inv .small) bytes e q
+      | false ↦ λ q. loaded-inv (v .size) (v .modes) (stepped (v .dataver)) image i (inv .small) bytes e q
     ]) refl
 
 load-inv : (image : List ℕ) (v : View) → Bytes image → Inv v → Inv (loaded image v .1)
-load-inv [] v bytes inv = empty-inv _ _ (inv .small)
+load-inv [] v bytes inv = empty-inv _ _ _ (inv .small)
 load-inv (b ∷ bs) v bytes inv = decoded-inv (b ∷ bs) v bytes inv (imageIn (v .size) (b ∷ bs)) refl
 
 module _ (laws : Laws) where
@@ -98,8 +98,8 @@ module _ (laws : Laws) where
             subst (λ (n : ℕ). Inv (sees (removal n) t .1)) (sym (eqb-true f 0 z)) (subst (λ (o : Seen). Inv (o .1)) (sym (laws .events t (s .intact) .removal-refused)) (s .inv))
         | false ↦ λ z. subst (λ (o : Seen). Inv (o .1)) (sym (laws .events t (s .intact) .removal-acts f h (eqb-false f 0 z))) (dropped-inv _ f (viewOf t) (s .inv))
       ]) refl
-  step-inv reset t h s = subst (λ (o : Seen). Inv (o .1)) (sym (laws .events t (s .intact) .reset-acts)) (empty-inv _ _ (s .inv .small))
-  step-inv start t h s = subst (λ (o : Seen). Inv (o .1)) (sym (laws .events t (s .intact) .start-acts)) (empty-inv _ _ (s .inv .small))
+  step-inv reset t h s = subst (λ (o : Seen). Inv (o .1)) (sym (laws .events t (s .intact) .reset-acts)) (empty-inv _ _ _ (s .inv .small))
+  step-inv start t h s = subst (λ (o : Seen). Inv (o .1)) (sym (laws .events t (s .intact) .start-acts)) (empty-inv _ _ _ (s .inv .small))
   step-inv failSafeEvent t h s = subst (λ (o : Seen). Inv (o .1)) (sym (laws .events t (s .intact) .failSafe-acts)) (s .inv)
   step-inv (load image) t h s =
       subst (λ (o : Seen). Inv (o .1)) (sym (laws .events t (s .intact) .load-acts image h)) (load-inv image (viewOf t) h (s .inv))
@@ -111,7 +111,7 @@ module _ (laws : Laws) where
   unfolding viewOf entriesIn recordsIn positions
   empty-standing t S e r = record {
     intact = S;
-    inv = subst Inv (λ i. record { size = t .state .size; dataver = t .state .dataver; entries = sym noEntries i; records = sym noRecords i }) (empty-inv (t .state .size) (t .state .dataver) (to-each t S .most));
+    inv = subst Inv (λ i. record { size = t .state .size; modes = t .state .modes; dataver = t .state .dataver; entries = sym noEntries i; records = sym noRecords i }) (empty-inv (t .state .size) (t .state .modes) (t .state .dataver) (to-each t S .most));
   }
     where
       noEntries : entriesIn t ≡ []

@@ -12,13 +12,14 @@ use Rattle.words.specs.Words.{keyOf, endpointOf, keyOfRecord}
 use Rattle.requests.specs.declared.Membership.the-variants.{Yes}
 use Rattle.state.specs.Table.{Table, tableOf, newState, emptyTable, entriesIn, withEntryCount}
 use Rattle.state.specs.Sound.{sound}
+use Rattle.state.specs.Capacity.{shareMode}
 use Rattle.state.specs.Answer.{Result}
 use Rattle.copies.specs.Copy.{copyScene}
 use Rattle.scenes.proofs.Computing.{soundness, computing}
 use Rattle.observation.specs.Lists.{bit, count}
 use Rattle.observation.specs.Calls.{add, view, remove, store, copy, membership, Call, command, copyRequest, does, step, answer, next}
 use Rattle.observation.specs.Refusals as refusals
-use Rattle.observation.specs.Equivalence.{Reached, empty, after, Equivalent, Agree, SeenRecord, seen, free, mine, scenesOf, currentOf, recordFits, own}
+use Rattle.observation.specs.Equivalence.{Reached, empty, after, Equivalent, Agree, SeenRecord, seen, placesOf, mine, scenesOf, currentOf, recordFits, own}
 use Rattle.observation.proofs.Theorem.{demand3}
 use Rattle.observation.proofs.Refusals.{left}
 
@@ -163,18 +164,34 @@ repeated-agree : Agree 1 (repeated 1 2) (repeated 2 1)
 unfolding running
 repeated-agree = record { places = refl; scenes = List·Permᴰ·swap refl refl; recorded = refl; oneMore = λ n h. refl }
 
--- the tables of each pair have one size
+-- the tables of each pair have one size and mode
+pub record OneKind (s t : Table) : Type 0 where
+  pub size : s .state .size ≡ t .state .size
+  pub mode : shareMode (s .state) ≡ shareMode (t .state)
+
+pub one-kind : {s t : Table} → s .state .size ≡ t .state .size → shareMode (s .state) ≡ shareMode (t .state) → OneKind s t
+one-kind z m = record { size = z; mode = m }
+
 sizes :
-    (invalidOn 0 .state .size ≡ invalidOn 1 .state .size)
-    × (validOn 1 0 .state .size ≡ validOn 0 1 .state .size)
-    × (filled .state .size ≡ filledRecorded .state .size)
-    × (emptyTable 1 .state .size ≡ recordedOnly .state .size)
-    × (emptyTable 2 .state .size ≡ oneTaken .state .size)
-    × (two 7 8 .state .size ≡ two 8 7 .state .size)
-    × (grouped 1 2 .state .size ≡ grouped 2 1 .state .size)
-    × (roomy .state .size ≡ roomyTaken .state .size)
+    OneKind (invalidOn 0) (invalidOn 1)
+    × OneKind (validOn 1 0) (validOn 0 1)
+    × OneKind filled filledRecorded
+    × OneKind (emptyTable 1) recordedOnly
+    × OneKind (emptyTable 2) oneTaken
+    × OneKind (two 7 8) (two 8 7)
+    × OneKind (grouped 1 2) (grouped 2 1)
+    × OneKind roomy roomyTaken
 unfolding running
-sizes = (refl, refl, refl, refl, refl, refl, refl, refl)
+sizes = (
+  one-kind refl refl,
+  one-kind refl refl,
+  one-kind refl refl,
+  one-kind refl refl,
+  one-kind refl refl,
+  one-kind refl refl,
+  one-kind refl refl,
+  one-kind refl refl,
+)
 
 -- ---- where they differ
 
@@ -192,18 +209,18 @@ valid-differ e = omega (arith, ap (λ (r : SeenRecord). r .endpoint) (Option·so
 -- agreement on all but the endpoint
 abbrev Else : Table → Table → Type 0
 Else s t =
-    (free s ≡ free t) × List·Permᴰ (scenesOf 1 s) (scenesOf 1 t)
+    (placesOf 1 s ≡ placesOf 1 t) × List·Permᴰ (scenesOf 1 s) (scenesOf 1 t)
     × (Option·map (λ w. bare (seen w)) (currentOf 1 s) ≡ Option·map (λ w. bare (seen w)) (currentOf 1 t)) × (recordFits s ≡ recordFits t)
 
 valid-else : Else (validOn 1 0) (validOn 0 1)
 unfolding running
 valid-else = (refl, List·Permᴰ·swap refl refl, refl, refl)
 
-fits-differ : (currentOf 1 (emptyTable 1) ≡ none → 0 < count (mine 1) (entriesIn (emptyTable 1)) + free (emptyTable 1) → recordFits (emptyTable 1) ≡ recordFits recordedOnly) → ⊥
+fits-differ : (currentOf 1 (emptyTable 1) ≡ none → 0 < count (mine 1) (entriesIn (emptyTable 1)) + placesOf 1 (emptyTable 1) → recordFits (emptyTable 1) ≡ recordFits recordedOnly) → ⊥
 unfolding running
 fits-differ e = let q = e refl (omega arith) in let z : _≡_ {A = ℕ} 0 1 = cc in omega arith
 
-fits-else : (free (emptyTable 1) ≡ free recordedOnly) × List·Permᴰ (scenesOf 1 (emptyTable 1)) (scenesOf 1 recordedOnly) × (Option·map seen (currentOf 1 (emptyTable 1)) ≡ Option·map seen (currentOf 1 recordedOnly))
+fits-else : (placesOf 1 (emptyTable 1) ≡ placesOf 1 recordedOnly) × List·Permᴰ (scenesOf 1 (emptyTable 1)) (scenesOf 1 recordedOnly) × (Option·map seen (currentOf 1 (emptyTable 1)) ≡ Option·map seen (currentOf 1 recordedOnly))
 unfolding running
 fits-else = (refl, List·Permᴰ·nil, refl)
 
@@ -211,7 +228,7 @@ filled-fits : recordFits filled ≡ recordFits filledRecorded → ⊥
 unfolding running
 filled-fits e = let z : _≡_ {A = ℕ} 0 1 = cc in omega arith
 
-places-differ : free (emptyTable 2) ≡ free oneTaken → ⊥
+places-differ : placesOf 1 (emptyTable 2) ≡ placesOf 1 oneTaken → ⊥
 unfolding running
 places-differ e = omega arith
 
@@ -219,12 +236,12 @@ places-else : List·Permᴰ (scenesOf 1 (emptyTable 2)) (scenesOf 1 oneTaken) ×
 unfolding running
 places-else = (List·Permᴰ·nil, refl, refl)
 
-roomy-differ : free roomy ≡ free roomyTaken → ⊥
+roomy-differ : placesOf 1 roomy ≡ placesOf 1 roomyTaken → ⊥
 unfolding running
 roomy-differ e = omega arith
 
 roomy-else :
-    (min (free roomy) maxRemaining ≡ min (free roomyTaken) maxRemaining) × List·Permᴰ (scenesOf 1 roomy) (scenesOf 1 roomyTaken)
+    (min (placesOf 1 roomy) maxRemaining ≡ min (placesOf 1 roomyTaken) maxRemaining) × List·Permᴰ (scenesOf 1 roomy) (scenesOf 1 roomyTaken)
     × (Option·map seen (currentOf 1 roomy) ≡ Option·map seen (currentOf 1 roomyTaken)) × (recordFits roomy ≡ recordFits roomyTaken)
 unfolding running
 roomy-else = (refl, List·Permᴰ·nil, refl, refl)
@@ -271,11 +288,11 @@ repeated-differ e = let z : _≡_ {A = ℕ} 1 2 = cc in omega arith
 
 -- ---- the readings, each with its counterexample
 
-same : (s t : Table) → Reached s → Reached t → s .state .size ≡ t .state .size → Agree 1 s t → Equivalent 1 s t
-same s t r q z a = demand3 1 s t (omega arith) (omega arith) r q z .1 a
+pub same : (s t : Table) → Reached s → Reached t → OneKind s t → Agree 1 s t → Equivalent 1 s t
+same s t r q z a = demand3 1 s t (omega arith) (omega arith) r q (z .size) (z .mode) .1 a
 
-told : (s t : Table) → Reached s → Reached t → s .state .size ≡ t .state .size → Equivalent 1 s t → Agree 1 s t
-told s t r q z e = demand3 1 s t (omega arith) (omega arith) r q z .0 e
+pub told : (s t : Table) → Reached s → Reached t → OneKind s t → Equivalent 1 s t → Agree 1 s t
+told s t r q z e = demand3 1 s t (omega arith) (omega arith) r q (z .size) (z .mode) .0 e
 
 -- "the endpoint is compared always": two tables are equivalent and differ in the endpoint of an invalid record
 pub endpoint-not-always : Equivalent 1 (invalidOn 0) (invalidOn 1) × (endpointsOf (invalidOn 0) ≡ endpointsOf (invalidOn 1) → ⊥)
@@ -293,7 +310,7 @@ fit-not-always = (same filled filledRecorded filled-reached recorded-reached (si
 
 -- "whether one more record fits is compared never": a fabric that has a place sees it
 pub fit-not-never :
-    (free (emptyTable 1) ≡ free recordedOnly) × List·Permᴰ (scenesOf 1 (emptyTable 1)) (scenesOf 1 recordedOnly)
+    (placesOf 1 (emptyTable 1) ≡ placesOf 1 recordedOnly) × List·Permᴰ (scenesOf 1 (emptyTable 1)) (scenesOf 1 recordedOnly)
     × (Option·map seen (currentOf 1 (emptyTable 1)) ≡ Option·map seen (currentOf 1 recordedOnly))
     × (Equivalent 1 (emptyTable 1) recordedOnly → ⊥)
 fit-not-never =
@@ -310,7 +327,7 @@ places-not-out =
 
 -- "free places are cut as a remaining capacity is": more than 253 of them are told apart
 pub places-not-cut :
-    (min (free roomy) maxRemaining ≡ min (free roomyTaken) maxRemaining) × List·Permᴰ (scenesOf 1 roomy) (scenesOf 1 roomyTaken)
+    (min (placesOf 1 roomy) maxRemaining ≡ min (placesOf 1 roomyTaken) maxRemaining) × List·Permᴰ (scenesOf 1 roomy) (scenesOf 1 roomyTaken)
     × (Option·map seen (currentOf 1 roomy) ≡ Option·map seen (currentOf 1 roomyTaken)) × (recordFits roomy ≡ recordFits roomyTaken)
     × (Equivalent 1 roomy roomyTaken → ⊥)
 places-not-cut =

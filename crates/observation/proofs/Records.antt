@@ -32,6 +32,7 @@ use Rattle.observation.proofs.Views.{records-list, records-has, records
 -- u is t with other records, and perhaps a step of the data version
 pub record CurrentOnly (u t : Table) : Type 0 where
   pub size : u .state .size ≡ t .state .size
+  pub modes : u .state .modes ≡ t .state .modes
   pub count : u .state .entries ≡ t .state .entries
   pub slots : u .slots ≡ t .slots
   pub entries : entriesIn u ≡ entriesIn t
@@ -78,7 +79,7 @@ module _ (t : Table) (scope : Scope) where
 
   pub invalidated-only : CurrentOnly (withCurrent (invalidateCurrent scope) t) t
   unfolding entriesIn invalidateCurrent
-  invalidated-only = record { size = refl; count = refl; slots = refl; entries = refl }
+  invalidated-only = record { size = refl; modes = refl; count = refl; slots = refl; entries = refl }
 
   pub invalidated-dataver : sound t ≡ true
       → withCurrent (invalidateCurrent scope) t .state .dataver ≡ cond (has (hits scope) (recordsIn t)) ((t .state .dataver + 1) % 2 ^ 32) (t .state .dataver)
@@ -153,7 +154,7 @@ module _ (t : Table) (sd : sound t ≡ true) (key : SceneKey) where
 module _ (t : Table) (key : SceneKey) where
   pub remembered-only : CurrentOnly (withCurrent (rememberCurrent key) t) t
   unfolding entriesIn rememberCurrent
-  remembered-only = record { size = refl; count = refl; slots = refl; entries = refl }
+  remembered-only = record { size = refl; modes = refl; count = refl; slots = refl; entries = refl }
 
   pub remembered-dataver : withCurrent (rememberCurrent key) t .state .dataver ≡ (t .state .dataver + 1) % 2 ^ 32
   unfolding rememberCurrent

@@ -81,7 +81,7 @@ module _ (t : Table) where
       go : (f : Found) → (upsertAt f key time ext t .status ≡ success → ⊥) → upsertAt f key time ext t .table ≡ t
       go (At p) = λ h. absurd (h refl)
       go Nothing =
-          either (λ (u : Upserted). (u .status ≡ success → ⊥) → u .table ≡ t) (mayAppend (t .state) (key .fabric))
+          either (λ (u : Upserted). (u .status ≡ success → ⊥) → u .table ≡ t) (mayAppend (t .state) (t .slots .keys) (key .fabric))
           (λ h. absurd (h refl)) (λ _. refl)
 
   saved-bare : (u : Upserted) → ((u .status ≡ success → ⊥) → u .table ≡ t) → Refuses t (saved u)

@@ -21,7 +21,7 @@ use Rattle.observation.specs.Lists.{find, keep}
 use Rattle.observation.specs.Calls.{Command, store, command, removal, does, step, sceneKey, CommandInRange}
 use Rattle.observation.specs.Equivalence.{keyIs, mine, ofFabric}
 use Rattle.observation.proofs.Lookups.{entryOf}
-use Rattle.observation.proofs.Changes.{View, viewOf, placeFor, written, invalidated, remembered}
+use Rattle.observation.proofs.Changes.{View, viewOf, placesIn, placeFor, written, invalidated, remembered}
 use Rattle.observation.proofs.Bits.{key-fabric, key-small, record-key}
 use Rattle.observation.proofs.Choices.{cond-elim}
 use Rattle.observation.proofs.Effects.{Seen, sees, gateOf, refuse, done, timeOf}
@@ -50,7 +50,10 @@ record Only (f : ℕ) (v : View) : Type 0 where
 
 module _ (t : Table) (sd : sound t ≡ true) (no-entries : t .state .entries ≡ 0) (no-records : t .state .recorded ≡ 0)
     (f e g s : ℕ) (m : Membership) (captured : List ℕ) (f1 : 1 ≤ f) (f255 : f ≤ 255) (he : e < 2 ^ 16) (fit : CommandInRange (store g s m captured)) where
-  empty-view : viewOf t ≡ record { size = t .state .size; dataver = t .state .dataver; entries = []; records = [] }
+  abbrev bare : View
+  bare = record { size = t .state .size; modes = t .state .modes; dataver = t .state .dataver; entries = []; records = [] }
+
+  empty-view : viewOf t ≡ bare
   unfolding viewOf entriesIn recordsIn positions
   empty-view = rw (no-entries, no-records)
 
@@ -65,7 +68,7 @@ module _ (t : Table) (sd : sound t ≡ true) (no-entries : t .state .entries ≡
   -- what is seen after a store that passes its gate, of the view before it
   abbrev stores : View → Seen
   stores v =
-      cond (placeFor (wordOf (sceneKey f e g s)) v) (
+      cond (placeFor f (wordOf (sceneKey f e g s)) v) (
         done true,
         remembered (sceneKey f e g s)
             (invalidated (Scene (sceneKey f e g s))
@@ -76,10 +79,10 @@ module _ (t : Table) (sd : sound t ≡ true) (no-entries : t .state .entries ≡
   abbrev OwnIfDone : Seen → Type 0
   OwnIfDone o = o .0 .status ≡ success → Only f (o .1)
 
-  stores-own : OwnIfDone (stores (record { size = t .state .size; dataver = t .state .dataver; entries = []; records = [] }))
+  stores-own : OwnIfDone (stores bare)
   unfolding remembered invalidated
   stores-own =
-      cond-elim OwnIfDone (ltb 0 (t .state .size))
+      cond-elim OwnIfDone (ltb 0 (placesIn f bare))
       (λ _ _. record {
         entries = rw (own-entry 0 (captured ++ (endOfContainer ∷ [])));
         records = cond-elim (λ l. keep (λ w. not (ofFabric f w)) l ≡ []) (ltb 0 (t .state .size)) (λ _. rw own-record) (λ _. refl);

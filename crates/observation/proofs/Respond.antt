@@ -25,11 +25,12 @@ use Rattle.observation.proofs.Lists.{found, has, takeOut, Often}
 use Rattle.observation.proofs.Lookups.{holds, entryOf}
 use Rattle.observation.proofs.Changes.{View, usedIn, currentIn, placeFor, entriesSet, written, invalidated, remembered}
 use Rattle.observation.proofs.Effects.{Seen, refuse, done, shown, gateOf, timeOf, viewed, applied, recalled, addOut, idsIn, remainingIn, row, infoOut}
-use Rattle.observation.proofs.Counts.{count-keep, count-map, length-count, count-le, find-put}
-use Rattle.observation.proofs.Choices.{cond-elim, cond-two, has-same, count-has, less-takeOut, less-keep}
+use Rattle.observation.proofs.Counts.{count-keep, count-map, length-count, find-put}
+use Rattle.observation.proofs.Choices.{cond-elim, cond-two, has-same, less-takeOut, less-keep}
 use Rattle.observation.proofs.Bits.{key-fabric}
-use Rattle.observation.proofs.Invariant.{Inv, FineKey, named-fine, entry-fine, placed, put-room, written-inv, shrunk-inv, takeOut-good, keep-good, invalidated-inv, remembered-inv}
-use Rattle.observation.proofs.Simulation.{Within, Sim, key-within, sim-find, sim-room, sim-place, sim-found, sim-put, sim-takeOut, sim-keep, sim-invalidated, scene-seen, group-seen, sim-remembered}
+use Rattle.observation.proofs.Places.{places-free}
+use Rattle.observation.proofs.Invariant.{Inv, FineKey, named-fine, entry-fine, placed, written-inv, shrunk-inv, takeOut-good, keep-good, invalidated-inv, remembered-inv}
+use Rattle.observation.proofs.Simulation.{Within, Sim, used-found, sim-find, sim-room, sim-place, sim-found, sim-put, sim-takeOut, sim-keep, sim-invalidated, scene-seen, group-seen, sim-remembered}
 use Rattle.observation.proofs.Order.{ids-perm}
 use Rattle.requests.proofs.Passed.{Named, lookup-passed, store-passed}
 
@@ -53,9 +54,6 @@ pub refused-responds : (f n : ℕ) (c : Command) → Responds f c (λ v. (refuse
 refused-responds f n c = record { alike = λ v w i j a. kept refl a; leaves = λ v i. i }
 
 -- ---- a fabric with a scene is alive
-
-used-found : (f k : ℕ) (v : View) → fabricOf k ≡ f → has (keyIs k) (v .entries) ≡ true → 1 ≤ usedIn f v
-used-found f k v h e = omega (arith, count-has (keyIs k) (v .entries) e, count-le (keyIs k) (mine f) (key-within f k h) (v .entries))
 
 used-written : (f : ℕ) (x : SceneEntry) (v : View) → fabricOf (x .key) ≡ f → 1 ≤ usedIn f (written x v)
 used-written f x v h = used-found f (x .key) (written x v) h (ap found (find-put (keyIs (x .key)) x (eq-eqb (x .key) (x .key) refl) (v .entries)))
@@ -108,10 +106,12 @@ module _ (f e : ℕ) (hf : f < 2 ^ 8) (he : e < 2 ^ 16) where
       let fine = entry-fine x (named-fine f e g s hf he hg hs (p .0 .fabric) (p .0 .scene)) (p .1) in
       record {
         alike = λ v w i j a.
-            cond-two (Kept f c) (placeFor k v) (placeFor k w) (sim-place f v w a k h (j .good))
-            (λ q _. kept refl (sim-invalidated f (Scene key) (written x v) (written x w) (scene-seen key) (sim-put f v w a x h (j .good) (i .room) (put-room x v (placed k v q) (i .room)))))
+            cond-two (Kept f c) (placeFor f k v) (placeFor f k w) (sim-place f v w a k h (j .good))
+            (λ q _. kept refl (sim-invalidated f (Scene key) (written x v) (written x w) (scene-seen key) (sim-put f v w a x h i j (placed f k v q))))
             (λ _ _. kept refl a);
-        leaves = λ v i. cond-elim (λ (o : Seen). Inv (o .1)) (placeFor k v) (λ q. invalidated-inv (Scene key) (written x v) (written-inv x v fine (placed k v q) i)) (λ _. i);
+        leaves = λ v i. 
+            cond-elim (λ (o : Seen). Inv (o .1)) (placeFor f k v)
+            (λ q. invalidated-inv (Scene key) (written x v) (written-inv x v fine (λ n. places-free f v (placed f k v q n)) i)) (λ _. i);
       }
 
   pub view-responds : (g s : ℕ) (m : Membership) → CommandInRange (view g s m) → Responds f (view g s m) (λ v. (viewed (find (keyIs (wordOf (sceneKey f e g s))) (v .entries)), v))
@@ -132,7 +132,7 @@ module _ (f e : ℕ) (hf : f < 2 ^ 8) (he : e < 2 ^ 16) where
       record {
         alike = λ v w i j a.
             cond-two (Kept f (remove g s m)) (has (keyIs k) (v .entries)) (has (keyIs k) (w .entries)) (ap found (sim-find f v w a k h (j .good)))
-            (λ _ _. kept refl (sim-invalidated f (Scene key) _ _ (scene-seen key) (sim-takeOut f v w a k h (j .good) (i .room)))) (λ _ _. kept refl a);
+            (λ _ _. kept refl (sim-invalidated f (Scene key) _ _ (scene-seen key) (sim-takeOut f v w a k h i j))) (λ _ _. kept refl a);
         leaves = λ v i.
             cond-elim (λ (o : Seen). Inv (o .1)) (has (keyIs k) (v .entries))
             (λ _. invalidated-inv (Scene key) _ (shrunk-inv _ v (less-takeOut (keyIs k) (v .entries)) (takeOut-good (keyIs k) (v .entries) (i .good)) i)) (λ _. i);
@@ -150,7 +150,7 @@ module _ (f e : ℕ) (hf : f < 2 ^ 8) (he : e < 2 ^ 16) where
       record {
         alike = λ v w i j a.
             cond-two (Kept f (removeAll g m)) (has q (v .entries)) (has q (w .entries)) (has-same q (v .entries) (w .entries) (a .scenes q (group-within f e g he hg)))
-            (λ _ _. kept refl (sim-invalidated f (Group key) _ _ (group-seen key) (sim-keep f v w a r (λ x z. group-within f e g he hg x (not-false (q x) z)) (i .room))))
+            (λ _ _. kept refl (sim-invalidated f (Group key) _ _ (group-seen key) (sim-keep f v w a r (λ x z. group-within f e g he hg x (not-false (q x) z)) i j)))
             (λ _ _. kept refl a);
         leaves = λ v i.
             cond-elim (λ (o : Seen). Inv (o .1)) (has q (v .entries))
@@ -159,7 +159,7 @@ module _ (f e : ℕ) (hf : f < 2 ^ 8) (he : e < 2 ^ 16) where
 
   pub store-responds : (g s : ℕ) (m : Membership) (captured : List ℕ) → CommandInRange (store g s m captured) → gateOf f e (store g s m captured) ≡ 0
       → Responds f (store g s m captured) (λ v.
-      cond (placeFor (wordOf (sceneKey f e g s)) v) (
+      cond (placeFor f (wordOf (sceneKey f e g s)) v) (
         done true,
         remembered (sceneKey f e g s)
             (invalidated (Scene (sceneKey f e g s))
@@ -177,20 +177,20 @@ module _ (f e : ℕ) (hf : f < 2 ^ 8) (he : e < 2 ^ 16) where
       record {
         alike = λ v w i j a.
             let y = x (find (keyIs k) (v .entries)) in
-            cond-two (Kept f (store g s m captured)) (placeFor k v) (placeFor k w) (sim-place f v w a k h (j .good))
+            cond-two (Kept f (store g s m captured)) (placeFor f k v) (placeFor f k w) (sim-place f v w a k h (j .good))
             (λ q _.
             kept refl (subst (λ (o : Option SceneEntry). Sim f (remembered key (invalidated (Scene key) (written y v))) (remembered key (invalidated (Scene key) (written (x o) w))))
             (sim-find f v w a k h (j .good))
             (sim-remembered key fine h (invalidated (Scene key) (written y v)) (invalidated (Scene key) (written y w))
             (omega (arith, used-written f y v h))
-            (sim-invalidated f (Scene key) (written y v) (written y w) (scene-seen key) (sim-put f v w a y h (j .good) (i .room) (put-room y v (placed k v q) (i .room)))))))
+            (sim-invalidated f (Scene key) (written y v) (written y w) (scene-seen key) (sim-put f v w a y h i j (placed f k v q))))))
             (λ _ _. kept refl a);
         leaves = λ v i.
             let y = x (find (keyIs k) (v .entries)) in
-            cond-elim (λ (o : Seen). Inv (o .1)) (placeFor k v)
+            cond-elim (λ (o : Seen). Inv (o .1)) (placeFor f k v)
             (λ q.
             remembered-inv key fine h (invalidated (Scene key) (written y v))
-            (invalidated-inv (Scene key) (written y v) (written-inv y v (entry-fine y fine (omega (arith, p .1, length-append captured (endOfContainer ∷ [])))) (placed k v q) i)))
+            (invalidated-inv (Scene key) (written y v) (written-inv y v (entry-fine y fine (omega (arith, p .1, length-append captured (endOfContainer ∷ [])))) (λ n. places-free f v (placed f k v q n)) i)))
             (λ _. i);
       }
 

@@ -27,7 +27,8 @@ use Rattle.observation.proofs.Effects.{Seen, refuse, gateOf, first, sou
 use Rattle.observation.proofs.Counts.{both, count-keep, count-map, count-takeOut, length-count, opt}
 use Rattle.observation.proofs.Choices.{cond-elim, cond-two, or-other, count-none, count-less}
 use Rattle.observation.proofs.Bits.{key-fabric, key-scene, rebuilt}
-use Rattle.observation.proofs.Invariant.{bad, Good, Inv, FineKey, named-fine, entry-fine, fine-entry, rest-good, keep-good, put-room, room-free, writtenAll-inv, invalidated-inv}
+use Rattle.observation.proofs.Places.{room-places}
+use Rattle.observation.proofs.Invariant.{bad, Good, Inv, FineKey, named-fine, entry-fine, fine-entry, rest-good, keep-good, writtenAll-inv, invalidated-inv}
 use Rattle.observation.proofs.Simulation.{Within, Sim, sim-find, sim-room, sim-put, sim-invalidated, scene-seen, group-seen}
 use Rattle.observation.proofs.CopyViews.{hit, hit-cons, Apart, AllMine, Targets, copies-same, copied-sim}
 use Rattle.observation.proofs.Respond.{Kept, Responds, kept, same-of, group-within}
@@ -158,7 +159,7 @@ module _ (f : ℕ) (c : Command) (v w : View) (i : Inv v) (j : Inv w) (a : Sim f
       (λ z. found (sim-find f v w a (y .key) own (j .good) z) || ltb 0 (sim-room f v w a z))
       (λ p _.
       kept refl (look (written y v) (written y w)
-      (sim-put f v w a y own (j .good) (i .room) (put-room y v (λ q. room-free f v (ltb-true 0 (roomIn f v) (or-other here more p q))) (i .room)))))
+      (sim-put f v w a y own i j (λ q. omega (arith, ltb-true 0 (roomIn f v) (or-other here more p q), room-places f v)))))
       (λ _ _. kept refl a)
 
   whole-kept : (scope : Scope) → ((v′ w′ : View) → Sim f v′ w′ → Sim f (invalidated scope v′) (invalidated scope w′)) → (whole : wholeCopy c ≡ true) (xs ys : List SceneEntry) → Often xs ys → Targets f xs → Targets f ys

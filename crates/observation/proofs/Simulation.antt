@@ -1,8 +1,8 @@
 -- The simulation: two views alike to a fabric, what follows for its lookups and counts, and which changes keep them alike. Assumes nothing.
-use Prim.Native.Nat.{ℕ, _+_, _-_, _/_, _≤_, _<_, min}
+use Prim.Native.Nat.{ℕ, _+_, _≤_, _<_}
 use native.Mathlib.Omega.{arith}
 use native.Mathlib.Decide.{ℕ-discrete}
-use mathlib.Core.Path.{_≡_, refl, sym, ap, ap₂, _∙_}
+use mathlib.Core.Path.{_≡_, refl, sym, ap, ap₂, _∙_, subst}
 use mathlib.Core.Bool.{Bool, true, false, cond, _&&_, _||_, false≢true}
 use mathlib.Core.List.{List, List-discrete}
 use mathlib.Core.Option.{Option, none, some, Option·map, Option·none-ne-some, Option·some-ne-none, Option·some-injective}
@@ -19,11 +19,12 @@ use Rattle.records.specs.Records.{inScope, cleared}
 use Rattle.observation.specs.Lists.{bit, count, find, keep}
 use Rattle.observation.specs.Equivalence.{keyIs, mine, ofFabric, SeenRecord, seen}
 use Rattle.observation.proofs.Lists.{found, has, put, takeOut}
-use Rattle.observation.proofs.Changes.{View, freeIn, usedIn, roomIn, currentIn, recordFitsIn, placeFor, entriesSet, written, invalidated, remembered}
-use Rattle.observation.proofs.Counts.{both, opt, count-put, count-takeOut, count-keep, find-passes, find-counts, find-none, none-find, find-one, find-map, find-put, length-put, length-takeOut, length-keep}
-use Rattle.observation.proofs.Choices.{lost, less-takeOut, less-keep}
+use Rattle.observation.proofs.Changes.{View, usedIn, roomIn, shareIn, placesIn, currentIn, recordFitsIn, placeFor, entriesSet, written, invalidated, remembered}
+use Rattle.observation.proofs.Counts.{both, opt, count-le, count-put, count-takeOut, count-keep, find-passes, find-counts, find-none, none-find, find-one, find-map, find-put, length-put, length-takeOut, length-keep}
+use Rattle.observation.proofs.Choices.{lost, count-has, less-takeOut, count-keep-le, less-keep}
 use Rattle.observation.proofs.Bits.{low-key, low-invalid, cleared-key}
-use Rattle.observation.proofs.Invariant.{FineKey, Good, valid-own}
+use Rattle.observation.proofs.Places.{room-same, places-free, Changed, changed-places, changed-alive, places-invalidated, places-remembered}
+use Rattle.observation.proofs.Invariant.{FineKey, Good, Inv, put-room, valid-own}
 
 -- a test that looks at the fabric's entries only
 abbrev pub Within : ℕ → (SceneEntry → Bool) → Type 0
@@ -31,10 +32,11 @@ Within f q = (x : SceneEntry) → q x ≡ true → mine f x ≡ true
 
 pub record Sim (f : ℕ) (v w : View) : Type 0 where
   pub size : v .size ≡ w .size
-  pub full : length (v .entries) ≡ length (w .entries)
+  pub share : shareIn v ≡ shareIn w
+  pub places : placesIn f v ≡ placesIn f w
   pub scenes : (q : SceneEntry → Bool) → Within f q → count q (v .entries) ≡ count q (w .entries)
   pub recorded : Option·map seen (currentIn f v) ≡ Option·map seen (currentIn f w)
-  pub oneMore : currentIn f v ≡ none → 0 < usedIn f v + freeIn v → recordFitsIn v ≡ recordFitsIn w
+  pub oneMore : currentIn f v ≡ none → 0 < usedIn f v + placesIn f v → recordFitsIn v ≡ recordFitsIn w
 
 -- ---- the same entry
 
@@ -80,7 +82,20 @@ find-same h es et once n same =
 pub key-within : (f k : ℕ) → fabricOf k ≡ f → Within f (keyIs k)
 key-within f k h x e = eq-eqb (fabricOf (x .key)) f (ap fabricOf (eqb-true (x .key) k e) ∙ h)
 
+-- a fabric with a scene has it among its entries
+pub used-found : (f k : ℕ) (v : View) → fabricOf k ≡ f → has (keyIs k) (v .entries) ≡ true → 1 ≤ usedIn f v
+used-found f k v h e = omega (arith, count-has (keyIs k) (v .entries) e, count-le (keyIs k) (mine f) (key-within f k h) (v .entries))
+
 -- ---- what is read
+
+-- a write of the fabric, as a change of its entries
+put-changed : {f : ℕ} (x : SceneEntry) (u : View) → fabricOf (x .key) ≡ f → Inv u → (has (keyIs (x .key)) (u .entries) ≡ false → 0 < placesIn f u)
+    → Changed f (put (keyIs (x .key)) x (u .entries)) u
+put-changed {f} x u h s place = record {
+  own = length-put (mine f) (keyIs (x .key)) x (eq-eqb (fabricOf (x .key)) f h) (key-within f (x .key) h) (u .entries);
+  before = s .room;
+  after = put-room x u (λ n. places-free f u (place n)) (s .room);
+}
 
 module _ (f : ℕ) (v w : View) (a : Sim f v w) where
   pub sim-find : (k : ℕ) → fabricOf k ≡ f → Good (w .entries) → find (keyIs k) (v .entries) ≡ find (keyIs k) (w .entries)
@@ -92,11 +107,10 @@ module _ (f : ℕ) (v w : View) (a : Sim f v w) where
   sim-used = a .scenes (mine f) (λ x e. e)
 
   pub sim-room : roomIn f v ≡ roomIn f w
-  unfolding roomIn
-  sim-room = λ i. min ((a .size i - 1) / 2 - sim-used i) (a .size i - a .full i)
+  sim-room = room-same f v w (a .share) (a .size) sim-used (a .places)
 
-  pub sim-place : (k : ℕ) → fabricOf k ≡ f → Good (w .entries) → placeFor k v ≡ placeFor k w
-  sim-place k h g = λ i. found (sim-find k h g i) || ltb (a .full i) (a .size i)
+  pub sim-place : (k : ℕ) → fabricOf k ≡ f → Good (w .entries) → placeFor f k v ≡ placeFor f k w
+  sim-place k h g = λ i. found (sim-find k h g i) || ltb 0 (a .places i)
 
   pub sim-found : found (currentIn f v) ≡ found (currentIn f w)
   sim-found = keeps (currentIn f v) ∙ ap found (a .recorded) ∙ sym (keeps (currentIn f w))
@@ -105,45 +119,57 @@ module _ (f : ℕ) (v w : View) (a : Sim f v w) where
       keeps none = refl
       keeps (some u) = refl
 
-  -- ---- entries that changed by the fabric's own only
+  -- ---- entries that changed by the fabric's own only, and of which there are none where it has no scene and no place
 
   pub sim-entries : (es et : List SceneEntry)
       → ((q : SceneEntry → Bool) → Within f q → count q es ≡ count q et)
-      → length es + usedIn f v ≡ length (v .entries) + count (mine f) es
-      → length et + usedIn f w ≡ length (w .entries) + count (mine f) et
-      → length (v .entries) ≤ v .size → length es ≤ v .size
+      → Changed f es v → Changed f et w
+      → (0 < count (mine f) es → 0 < usedIn f v + placesIn f v)
       → Sim f (entriesSet es v) (entriesSet et w)
-  sim-entries es et same lv lw r r′ = record {
-    size = a .size;
-    full = omega (arith, a .full, same (mine f) (λ x e. e), sim-used);
-    scenes = same;
-    recorded = a .recorded;
-    oneMore = λ n h. a .oneMore n (omega arith);
-  }
+  sim-entries es et same cv cw alive =
+      let used : count (mine f) es ≡ count (mine f) et = same (mine f) (λ x e. e) in
+      record {
+        size = a .size;
+        share = a .share;
+        places = changed-places f v w (a .share) (a .size) es et sim-used used cv cw (a .places);
+        scenes = same;
+        recorded = a .recorded;
+        oneMore = λ n h. a .oneMore n (changed-alive f v es cv alive h);
+      }
 
-  pub sim-put : (x : SceneEntry) → fabricOf (x .key) ≡ f → Good (w .entries) → length (v .entries) ≤ v .size → length (put (keyIs (x .key)) x (v .entries)) ≤ v .size
-      → Sim f (written x v) (written x w)
-  sim-put x h g r r′ =
+  -- a write has its place: over the entry with its key, or as one more
+  pub sim-put : (x : SceneEntry) → fabricOf (x .key) ≡ f → Inv v → Inv w → (has (keyIs (x .key)) (v .entries) ≡ false → 0 < placesIn f v) → Sim f (written x v) (written x w)
+  sim-put x h i j place =
       let k = keyIs (x .key) in
+      let g = j .good in
       let own : mine f x ≡ true = eq-eqb (fabricOf (x .key)) f h in
+      let place′ : has k (w .entries) ≡ false → 0 < placesIn f w = λ n. subst (λ (m : ℕ). 0 < m) (a .places) (place (ap found (sim-find (x .key) h g) ∙ n)) in
       sim-entries (put k x (v .entries)) (put k x (w .entries))
       (λ q z. omega (arith, count-put q k x (v .entries), count-put q k x (w .entries), a .scenes q z, ap (opt q) (sim-find (x .key) h g)))
-      (length-put (mine f) k x own (key-within f (x .key) h) (v .entries)) (length-put (mine f) k x own (key-within f (x .key) h) (w .entries)) r r′
+      (put-changed x v h i place) (put-changed x w h j place′)
+      (λ _.
+      (elim (has k (v .entries)) as (λ b. has k (v .entries) ≡ b → 0 < usedIn f v + placesIn f v) [
+        | true ↦ λ e. omega (arith, used-found f (x .key) v h e)
+        | false ↦ λ e. omega (arith, place e)
+      ]) refl)
 
-  pub sim-takeOut : (k : ℕ) → fabricOf k ≡ f → Good (w .entries) → length (v .entries) ≤ v .size
+  pub sim-takeOut : (k : ℕ) → fabricOf k ≡ f → Inv v → Inv w
       → Sim f (entriesSet (takeOut (keyIs k) (v .entries)) v) (entriesSet (takeOut (keyIs k) (w .entries)) w)
-  sim-takeOut k h g r =
+  sim-takeOut k h i j =
+      let changed : (u : View) → Inv u → Changed f (takeOut (keyIs k) (u .entries)) u = λ u s.
+      record { own = length-takeOut (mine f) (keyIs k) (key-within f k h) (u .entries); before = s .room; after = omega (arith, s .room, less-takeOut (keyIs k) (u .entries)) } in
       sim-entries (takeOut (keyIs k) (v .entries)) (takeOut (keyIs k) (w .entries))
-      (λ q z. omega (arith, count-takeOut q (keyIs k) (v .entries), count-takeOut q (keyIs k) (w .entries), a .scenes q z, ap (opt q) (sim-find k h g)))
-      (length-takeOut (mine f) (keyIs k) (key-within f k h) (v .entries)) (length-takeOut (mine f) (keyIs k) (key-within f k h) (w .entries))
-      r (omega (arith, less-takeOut (keyIs k) (v .entries)))
+      (λ q z. omega (arith, count-takeOut q (keyIs k) (v .entries), count-takeOut q (keyIs k) (w .entries), a .scenes q z, ap (opt q) (sim-find k h (j .good))))
+      (changed v i) (changed w j) (λ n. omega (arith, n, count-takeOut (mine f) (keyIs k) (v .entries)))
 
-  pub sim-keep : (r : SceneEntry → Bool) → ((x : SceneEntry) → r x ≡ false → mine f x ≡ true) → length (v .entries) ≤ v .size
+  pub sim-keep : (r : SceneEntry → Bool) → ((x : SceneEntry) → r x ≡ false → mine f x ≡ true) → Inv v → Inv w
       → Sim f (entriesSet (keep r (v .entries)) v) (entriesSet (keep r (w .entries)) w)
-  sim-keep r h room =
+  sim-keep r h i j =
+      let changed : (u : View) → Inv u → Changed f (keep r (u .entries)) u = λ u s.
+      record { own = length-keep (mine f) r h (u .entries); before = s .room; after = omega (arith, s .room, less-keep r (u .entries)) } in
       sim-entries (keep r (v .entries)) (keep r (w .entries))
       (λ q z. count-keep q r (v .entries) ∙ a .scenes (λ x. r x && q x) (λ x e. z x (both (r x) (q x) e .1)) ∙ sym (count-keep q r (w .entries)))
-      (length-keep (mine f) r h (v .entries)) (length-keep (mine f) r h (w .entries)) room (omega (arith, less-keep r (v .entries)))
+      (changed v i) (changed w j) (λ n. omega (arith, n, count-keep-le (mine f) r (v .entries)))
 
 -- ---- invalidating
 
@@ -186,10 +212,11 @@ pub sim-invalidated : (f : ℕ) (scope : Scope) (v w : View) → Looks scope →
 unfolding invalidated
 sim-invalidated f scope v w look a = record {
   size = a .size;
-  full = a .full;
+  share = a .share;
+  places = places-invalidated f v scope ∙ a .places ∙ sym (places-invalidated f w scope);
   scenes = a .scenes;
   recorded = ap (Option·map seen) (current-invalidated f scope v) ∙ go (currentIn f v) (currentIn f w) refl refl (a .recorded) ∙ sym (ap (Option·map seen) (current-invalidated f scope w));
-  oneMore = λ n h. fits-invalidated scope v ∙ a .oneMore (unmapped (currentIn f v) (sym (current-invalidated f scope v) ∙ n)) h ∙ sym (fits-invalidated scope w);
+  oneMore = λ n h. fits-invalidated scope v ∙ a .oneMore (unmapped (currentIn f v) (sym (current-invalidated f scope v) ∙ n)) (omega (arith, h, places-invalidated f v scope)) ∙ sym (fits-invalidated scope w);
 }
   where
     unmapped : (o : Option ℕ) → Option·map (cleared scope) o ≡ none → o ≡ none
@@ -230,7 +257,7 @@ module _ (key : SceneKey) (fine : FineKey (wordOf key)) (own : fabricOf (wordOf 
   pub put-current : (rs : List ℕ) → find (ofFabric f) (put (ofFabric f) (validRecord key) rs) ≡ some (validRecord key)
   put-current rs = find-put (ofFabric f) (validRecord key) (eq-eqb (fabricOf (keyOfRecord (validRecord key))) f (valid-own key fine own)) rs
 
-  pub sim-remembered : (v w : View) → 0 < usedIn f v + freeIn v → Sim f v w → Sim f (remembered key v) (remembered key w)
+  pub sim-remembered : (v w : View) → 0 < usedIn f v + placesIn f v → Sim f v w → Sim f (remembered key v) (remembered key w)
   unfolding remembered
   sim-remembered v w alive a = go (has (ofFabric f) (v .records) || recordFitsIn v) refl
     where
@@ -243,7 +270,8 @@ module _ (key : SceneKey) (fine : FineKey (wordOf key)) (own : fabricOf (wordOf 
           let e′ : (has (ofFabric f) (w .records) || recordFitsIn w) ≡ true = sym (fits (has (ofFabric f) (v .records)) refl) ∙ e in
           record {
             size = a .size;
-            full = a .full;
+            share = a .share;
+            places = places-remembered f v key ∙ a .places ∙ sym (places-remembered f w key);
             scenes = a .scenes;
             recorded = rw (e, e′) (ap (Option·map seen) (put-current (v .records) ∙ sym (put-current (w .records))));
             oneMore = λ n _.
@@ -252,4 +280,11 @@ module _ (key : SceneKey) (fine : FineKey (wordOf key)) (own : fabricOf (wordOf 
           }
       go false e =
           let e′ : (has (ofFabric f) (w .records) || recordFitsIn w) ≡ false = sym (fits (has (ofFabric f) (v .records)) refl) ∙ e in
-          record { size = a .size; full = a .full; scenes = a .scenes; recorded = rw (e, e′) (a .recorded); oneMore = rw (e, e′) (a .oneMore) }
+          record {
+            size = a .size;
+            share = a .share;
+            places = places-remembered f v key ∙ a .places ∙ sym (places-remembered f w key);
+            scenes = a .scenes;
+            recorded = rw (e, e′) (a .recorded);
+            oneMore = rw (e, e′) (λ n h. a .oneMore n (omega (arith, h, places-remembered f v key)));
+          }

@@ -1,4 +1,4 @@
--- Demand 3: two reached tables of one size are equivalent for a fabric exactly when they agree on the four matters. And what every
+-- Demand 3: two reached tables of one size and mode are equivalent for a fabric exactly when they agree on the four matters. And what every
 -- reached table has. Assumes nothing.
 use Prim.Native.Nat.{ℕ, _≤_}
 use native.Mathlib.Omega.{arith}
@@ -21,10 +21,10 @@ use Rattle.observation.proofs.Forward.{alike, sim-of}
 use Rattle.observation.proofs.Backward.{agree}
 
 pub demand3 : Demand3
-demand3 f s t f1 f255 rs rt z =
+demand3 f s t f1 f255 rs rt z m =
     let i = reached-standing laws rs in
     let j = reached-standing laws rt in
-    ((λ h. agree laws f f1 f255 s t i j z h), (λ a xs fit. alike laws f xs s t fit i j (sim-of f s t i j z a)))
+    ((λ h. agree laws f f1 f255 s t i j h), (λ a xs fit. alike laws f xs s t fit i j (sim-of f s t i j z m a)))
 
 -- ---- reached tables
 

@@ -1,6 +1,6 @@
 -- Observational equivalence of two tables for a fabric, and the four matters that it comes down to: demand 3, and document 01, "In the
--- sight of a fabric", which calls equivalent tables "equal in the sight of" the fabric.
-use Prim.Native.Nat.{ℕ, _+_, _-_, _<_, _≤_}
+-- sight of a fabric", which calls equivalent tables "equal in the sight of" the fabric; places by document 02, Q-5.
+use Prim.Native.Nat.{ℕ, _+_, _<_, _≤_}
 use mathlib.Core.Path.{_≡_}
 use mathlib.Core.Logic.{_↔_}
 use mathlib.Core.Bool.{Bool, true, false, cond, _&&_, _||_}
@@ -13,6 +13,7 @@ use Rattle.slots.specs.Slots.{SceneEntry}
 use Rattle.requests.specs.Requests.{wholeGroup}
 use Rattle.state.specs.Table.{Table, entriesIn, recordsIn}
 use Rattle.state.specs.Sound.{sound}
+use Rattle.state.specs.Capacity.{shareMode, placesFor}
 use Rattle.observation.specs.Lists.{count, find, keep}
 use Rattle.observation.specs.Calls.{Command, add, addRead, view, remove, removeAll, store, recall, copy, membership, info, Call, command, notice, Answer, answer, next, InRange}
 
@@ -84,9 +85,10 @@ Equivalent f s t = (xs : List Event) → AllInRange f xs → Alike f xs s t
 
 -- ---- the four matters
 
--- free places
-abbrev pub free : Table → ℕ
-free t = t .state .size - t .state .entries
+-- places: how many scenes the fabric may still add. They are the free places and, in share mode (document 02, Q-5), the smaller of the share
+-- that is left and these; nothing is cut
+abbrev pub placesOf : ℕ → Table → ℕ
+placesOf f t = placesFor (t .state) (t .slots .keys) f
 
 -- the fabric's entries, in table order
 abbrev pub mine : ℕ → SceneEntry → Bool
@@ -122,10 +124,10 @@ abbrev pub recordFits : Table → Bool
 recordFits t = ltb (t .state .recorded) (t .state .size)
 
 pub record Agree (f : ℕ) (s t : Table) : Type 0 where
-  pub places : free s ≡ free t
+  pub places : placesOf f s ≡ placesOf f t
   pub scenes : List·Permᴰ (scenesOf f s) (scenesOf f t)
   pub recorded : Option·map seen (currentOf f s) ≡ Option·map seen (currentOf f t)
-  pub oneMore : currentOf f s ≡ none → 0 < count (mine f) (entriesIn s) + free s → recordFits s ≡ recordFits t
+  pub oneMore : currentOf f s ≡ none → 0 < count (mine f) (entriesIn s) + placesOf f s → recordFits s ≡ recordFits t
 
 -- the entry of a key word
 abbrev pub keyIs : ℕ → SceneEntry → Bool
@@ -139,6 +141,8 @@ pub record Proper (t : Table) : Type 0 where
   pub scenes : (x : SceneEntry) → List·Memᴰ x (entriesIn t) → (1 ≤ sceneOf (x .key)) × (sceneOf (x .key) ≤ 254)
   pub current : (w : ℕ) → List·Memᴰ w (recordsIn t) → (1 ≤ sceneOf (keyOfRecord w)) × (sceneOf (keyOfRecord w) ≤ 254)
 
--- demand 3
+-- demand 3, in either mode: the two tables are of one size, and both or neither in share mode. The other bits of the modes may differ
 abbrev pub Demand3 : Type 0
-Demand3 = (f : ℕ) (s t : Table) → 1 ≤ f → f ≤ 255 → Reached s → Reached t → s .state .size ≡ t .state .size → Equivalent f s t ↔ Agree f s t
+Demand3 =
+    (f : ℕ) (s t : Table) → 1 ≤ f → f ≤ 255 → Reached s → Reached t → s .state .size ≡ t .state .size
+    → shareMode (s .state) ≡ shareMode (t .state) → Equivalent f s t ↔ Agree f s t

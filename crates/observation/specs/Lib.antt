@@ -4,3 +4,4 @@ pub mod Equivalence
 pub mod Numbers
 pub mod Refusals
 pub mod FieldBytes
+pub mod Share

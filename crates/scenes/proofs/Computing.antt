@@ -8,7 +8,7 @@ use Rattle.records.specs.Records.{recordsSound, firstOwned, rememberAt, remembe
 use Rattle.requests.specs.Requests.{orNext, firstRefusal, memberGate, pairsGate, addGate, storeGate, lookupGate, groupGate, copyGate}
 use Rattle.state.specs.Table.{entriesIn, recordsIn}
 use Rattle.state.specs.Sound.{inBounds, sound}
-use Rattle.state.specs.Capacity.{roomFor, remaining}
+use Rattle.state.specs.Capacity.{roomFor, remaining, placesFor}
 use Rattle.state.specs.Current.{rememberCurrent, invalidateCurrent}
 use Rattle.state.specs.Change.{putAt, append, upsertAt, upsert, swapRemove}
 use Rattle.state.specs.Answer.{refusalOf, guarded}
@@ -25,7 +25,7 @@ unfolding guarded refusalOf firstRefusal orNext memberGate pairsGate addGate sto
 gates = tt
 
 entries : Unit {0}
-unfolding firstKey firstBelow orElse countKeys countBelow within roomFor remaining append putAt putSlot overlay
+unfolding firstKey firstBelow orElse countKeys countBelow within roomFor remaining placesFor append putAt putSlot overlay
     swapRemove copySlot laid scenesInside keptBelow
 entries = tt
 
