@@ -52,7 +52,7 @@ pub record Targets (f : ℕ) (xs : List SceneEntry) : Type 0 where
   pub apart : Apart xs
   pub fine : count bad xs ≡ 0
 
-mine-of : (f : ℕ) (x : SceneEntry) (n : ℕ) → bit (not (mine f x)) + n ≡ 0 → fabricOf (x .key) ≡ f
+pub mine-of : (f : ℕ) (x : SceneEntry) (n : ℕ) → bit (not (mine f x)) + n ≡ 0 → fabricOf (x .key) ≡ f
 mine-of f x n z = eqb-true (fabricOf (x .key)) f (go (mine f x) z)
   where
     go : (b : Bool) → bit (not b) + n ≡ 0 → b ≡ true

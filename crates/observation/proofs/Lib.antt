@@ -52,6 +52,7 @@ pub mod Numbers
 pub mod Unsound
 pub mod Refusals
 pub mod Modes
+pub mod Share
 pub mod Midway
 pub mod Readings
 pub mod Removal

@@ -1,6 +1,6 @@
 -- No call changes the modes: each hands back the head with the modes that it was given. Assumes nothing.
 use Prim.Native.Nat.{ℕ, zero, suc}
-use mathlib.Core.Path.{_≡_, refl, _∙_}
+use mathlib.Core.Path.{_≡_, refl, ap, _∙_}
 use mathlib.Core.List.{List, [], _∷_}
 use mathlib.Core.Option.{Option, none, some}
 use lib.Dec.{eqb, ltb}
@@ -35,9 +35,10 @@ use Rattle.image_save.specs.Saving.{Saved, saveImage}
 use Rattle.image_reader.specs.Image.{Image, imageIn}
 use Rattle.image_load.specs.Loading.{restored, loadTlv, loadImage}
 use Rattle.add_read.specs.Adding.{addSceneRead}
-use Rattle.observation.specs.Refusals.{Outward, add, addRead, store, remove, removeAll, recall, lookup, view, copy, membership, info, notice, removal, reset, start, failSafeEvent, save, load, answer}
-use Rattle.observation.specs.Share.{ModesStay}
+use Rattle.observation.specs.Refusals.{Outward, add, addRead, store, remove, removeAll, recall, lookup, view, copy, membership, info, notice, removal, reset, start, failSafeEvent, save, load, Answered, result, scene, list, row, image, answer, outward}
+use Rattle.observation.specs.Share.{headOf, ModesStay, ModesStayRun}
 use Rattle.observation.proofs.Numbers.{either}
+use Rattle.observation.proofs.Refusals.{left, runs}
 
 -- the modes of a head are a table's
 abbrev Of : Table → ScenesState → Type 0
@@ -168,3 +169,17 @@ modes-stay failSafeEvent t = result-modes t _ _ refl
 modes-stay (save buffer) t = guarded-modes (λ (s : Saved). s .answer .state) t _ (λ _. refl) _ _ refl
 modes-stay (load []) t = result-modes t _ _ refl
 modes-stay (load (b ∷ bs)) t = result-modes t _ _ (restored-modes t (imageIn (t .state .size) (b ∷ bs)))
+
+-- ---- in the runs of demand 3
+
+left-head : (t : Table) (a : Answered) → left t a .state ≡ headOf a
+left-head t (result r) = refl
+left-head t (scene r) = refl
+left-head t (list l) = refl
+left-head t (row r) = refl
+left-head t (image s) = refl
+
+pub modes-stay-run : ModesStayRun
+modes-stay-run c t =
+    let a = answer (outward c) t in
+    ap (λ (u : Table). u .state .modes) (runs c t .table) ∙ ap (λ (s : ScenesState). s .modes) (left-head t a) ∙ modes-stay (outward c) t

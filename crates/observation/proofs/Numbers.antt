@@ -17,7 +17,7 @@ use Rattle.records.specs.Records.{firstOwned}
 use Rattle.requests.specs.declared.Membership.{Membership}
 use Rattle.requests.specs.declared.Membership.the-variants.{Yes, No, Failed}
 use Rattle.requests.specs.declared.CopyRequest.{CopyRequest}
-use Rattle.requests.specs.Requests.{orNext, firstRefusal, refuseIf, memberGate, pairGate, pairsGate, sceneGate, copiedGate, wholeGroup, addGate, storeGate, lookupGate, groupGate, copyGate, infoGate, fabricGate}
+use Rattle.requests.specs.Requests.{orNext, firstRefusal, refuseIf, memberGate, pairGate, pairsGate, sceneGate, fieldsGate, copiedGate, wholeGroup, addGate, storeGate, lookupGate, groupGate, copyGate, infoGate, fabricGate}
 use Rattle.commands.specs.declared.Applied.{Applied}
 use Rattle.reads.specs.declared.Transition.{Transition}
 use Rattle.reads.specs.declared.SceneRead.{SceneRead}
@@ -80,6 +80,34 @@ module _ (P : ℕ → Type 0) (zero-is : P success) where
       go : (ps : List ℕ) → Each (map pairGate ps)
       go [] = tt
       go (p ∷ ps) = (either P (eqb p notScenable) never (refuse-if (ltb clusterUnknown p) badPair bad), go ps)
+
+  -- the gates of the calls that may write a new entry
+  module _ (none : P noFabric) (reserved : P constraintError) (never : P invalidCommand) (failed : P membershipFailed) (m : Membership) where
+    pub add-gate-is : P badPair → (key : SceneKey) (time : ℕ) (pairs : List ℕ) (len : ℕ) → P (fieldsGate maxFields len) → P (addGate key time m pairs maxFields len)
+    unfolding addGate
+    add-gate-is bad key time pairs len fields =
+        first-each _ (fabric-is none (key .fabric), (scene-is reserved (key .scene), (refuse-if (ltb maxTime time) constraintError reserved,
+        (member-is never failed (key .group) m, (pairs-are never bad pairs, (fields, tt))))))
+
+    pub addRead-gate-is : P badPair → P badFieldSets → (key : SceneKey) (time : ℕ) (pairs ext : List ℕ) → P (fieldsGate maxFields (length ext))
+        → P (addReadGate key time m pairs maxFields ext)
+    unfolding addReadGate fieldSetsGate
+    addRead-gate-is bad eleven key time pairs ext fields =
+        first-each _ (fabric-is none (key .fabric), (scene-is reserved (key .scene), (refuse-if (ltb maxTime time) constraintError reserved,
+        (member-is never failed (key .group) m, (refuse-if (not (holdsPairs (length pairs) (setsIn ext))) badFieldSets eleven, (pairs-are never bad pairs, (fields, tt)))))))
+
+    pub store-gate-is : P captureTooLong → (key : SceneKey) (len : ℕ) → P (storeGate key m maxFields len)
+    unfolding storeGate
+    store-gate-is long key len =
+        first-each _ (fabric-is none (key .fabric), (scene-is reserved (key .scene), (member-is never failed (key .group) m,
+        (refuse-if (ltb maxFields (len + 1)) captureTooLong long, tt))))
+
+    pub copy-gate-is : (c : CopyRequest) (n : Membership) → P (copyGate c m n)
+    unfolding copyGate
+    copy-gate-is c n =
+        let copied-gate : (s : ℕ) → P (copiedGate (c .mode) s) = λ s. either P (wholeGroup (c .mode)) zero-is (scene-is reserved s) in
+        first-each _ (fabric-is none (c .fabric), (copied-gate (c .from .scene), (copied-gate (c .to .scene),
+        (member-is never failed (c .from .group) m, (member-is never failed (c .to .group) n, tt)))))
 
   -- fault 6, the request's refusal, or what the table decides
   guarded-is : {A : Type 0} (status : A → ℕ) (refuse : ℕ → A) → ((n : ℕ) → status (refuse n) ≡ n) → (t : Table) (gate : ℕ) (o : A)
@@ -172,29 +200,28 @@ module _ (P : ℕ → Type 0) (done : P success) where
 
 module _ (key : SceneKey) (m : Membership) (t : Table) where
   pub add-numbers : (time : ℕ) (pairs ext : List ℕ) → Among (0 ∷ 1 ∷ 2 ∷ 6 ∷ 7 ∷ 0x85 ∷ 0x87 ∷ 0x89 ∷ []) (addScene key time m pairs ext t .status)
-  unfolding addScene addGate
+  unfolding addScene
   add-numbers time pairs ext =
       let P : ℕ → Type 0 = Among (0 ∷ 1 ∷ 2 ∷ 6 ∷ 7 ∷ 0x85 ∷ 0x87 ∷ 0x89 ∷ []) in
       guarded-is P refl (λ (r : Result). r .status) (refused t) (λ n. refl) t _ _ refl
-      (first-each P refl _ (fabric-is P refl refl (key .fabric), (scene-is P refl refl (key .scene), (refuse-if P refl (ltb maxTime time) constraintError refl, (member-is P refl refl refl (key .group) m, (pairs-are P refl refl refl pairs, (refuse-if P refl (ltb maxFields (length ext)) insufficientSpace refl, tt)))))))
+      (add-gate-is P refl refl refl refl refl m refl key time pairs (length ext) (refuse-if P refl (ltb maxFields (length ext)) insufficientSpace refl))
       (upsert-is P refl refl key time ext t)
 
   -- an add's numbers and 11
   pub addRead-numbers : (time : ℕ) (pairs ext : List ℕ) → Among (0 ∷ 1 ∷ 2 ∷ 6 ∷ 7 ∷ 11 ∷ 0x85 ∷ 0x87 ∷ 0x89 ∷ []) (addSceneRead key time m pairs ext t .status)
-  unfolding addSceneRead addReadGate fieldSetsGate
+  unfolding addSceneRead
   addRead-numbers time pairs ext =
       let P : ℕ → Type 0 = Among (0 ∷ 1 ∷ 2 ∷ 6 ∷ 7 ∷ 11 ∷ 0x85 ∷ 0x87 ∷ 0x89 ∷ []) in
-      let sets : P (fieldSetsGate pairs ext) = refuse-if P refl (not (holdsPairs (length pairs) (setsIn ext))) badFieldSets refl in
       guarded-is P refl (λ (r : Result). r .status) (refused t) (λ n. refl) t _ _ refl
-      (first-each P refl _ (fabric-is P refl refl (key .fabric), (scene-is P refl refl (key .scene), (refuse-if P refl (ltb maxTime time) constraintError refl, (member-is P refl refl refl (key .group) m, (sets, (pairs-are P refl refl refl pairs, (refuse-if P refl (ltb maxFields (length ext)) insufficientSpace refl, tt))))))))
+      (addRead-gate-is P refl refl refl refl refl m refl refl key time pairs ext (refuse-if P refl (ltb maxFields (length ext)) insufficientSpace refl))
       (upsert-is P refl refl key time ext t)
 
   pub store-numbers : (captured : List ℕ) → Among (0 ∷ 1 ∷ 2 ∷ 3 ∷ 6 ∷ 0x85 ∷ 0x87 ∷ 0x89 ∷ []) (storeScene key m captured t .status)
-  unfolding storeScene storeGate storeCaptured
+  unfolding storeScene storeCaptured
   store-numbers captured =
       let P : ℕ → Type 0 = Among (0 ∷ 1 ∷ 2 ∷ 3 ∷ 6 ∷ 0x85 ∷ 0x87 ∷ 0x89 ∷ []) in
       guarded-is P refl (λ (r : Result). r .status) (refused t) (λ n. refl) t _ _ refl
-      (first-each P refl _ (fabric-is P refl refl (key .fabric), (scene-is P refl refl (key .scene), (member-is P refl refl refl (key .group) m, (refuse-if P refl (ltb maxFields (length captured + 1)) captureTooLong refl, tt)))))
+      (store-gate-is P refl refl refl refl refl m refl key (length captured))
       (stored-is P refl key _ (upsert-is P refl refl key _ _ t))
 
   -- view, remove and recall have one gate
@@ -247,12 +274,11 @@ module _ (key : GroupKey) (m : Membership) (t : Table) where
       (list-is P refl refl (sceneIds key t) _ buffer t)
 
 pub copy-numbers : (c : CopyRequest) (m n : Membership) (t : Table) → Among (0 ∷ 1 ∷ 2 ∷ 6 ∷ 0x85 ∷ 0x87 ∷ 0x89 ∷ 0x8B ∷ []) (copyScene c m n t .status)
-unfolding copyScene copyGate
+unfolding copyScene
 copy-numbers c m n t =
     let P : ℕ → Type 0 = Among (0 ∷ 1 ∷ 2 ∷ 6 ∷ 0x85 ∷ 0x87 ∷ 0x89 ∷ 0x8B ∷ []) in
-    let copied-gate : (s : ℕ) → P (copiedGate (c .mode) s) = λ s. either P (wholeGroup (c .mode)) refl (scene-is P refl refl s) in
     guarded-is P refl (λ (r : Result). r .status) (refused t) (λ k. refl) t _ _ refl
-    (first-each P refl _ (fabric-is P refl refl (c .fabric), (copied-gate (c .from .scene), (copied-gate (c .to .scene), (member-is P refl refl refl (c .from .group) m, (member-is P refl refl refl (c .to .group) n, tt))))))
+    (copy-gate-is P refl refl refl refl refl m c n)
     (inner-is P refl refl refl c t)
 
 pub info-numbers : (fabric endpoint : ℕ) (single : Bool) (t : Table) → Among (0 ∷ 1 ∷ 5 ∷ 6 ∷ []) (readFabricSceneInfo fabric endpoint single t .status)

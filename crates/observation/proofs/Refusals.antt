@@ -278,11 +278,11 @@ lookup-state key m o t =
     go Nothing = refl
 
 -- what a call of a run answers and leaves is the outward call's
-record Runs (t : Table) (c : calls.Call) : Type 0 where
-  number : calls.answer c t .status ≡ status (answer (outward c) t)
-  table : calls.next c t ≡ left t (answer (outward c) t)
+pub record Runs (t : Table) (c : calls.Call) : Type 0 where
+  pub number : calls.answer c t .status ≡ status (answer (outward c) t)
+  pub table : calls.next c t ≡ left t (answer (outward c) t)
 
-runs : (c : calls.Call) (t : Table) → Runs t c
+pub runs : (c : calls.Call) (t : Table) → Runs t c
 unfolding calls.step calls.does
 runs (calls.command f e (calls.add g s time m pairs ext)) t = record { number = refl; table = refl }
 runs (calls.command f e (calls.addRead g s time m pairs ext)) t = record { number = refl; table = refl }

@@ -55,7 +55,7 @@ module _ (f e mode g h r : ℕ) (hf : f < 2 ^ 8) (he : e < 2 ^ 16) (hg : g < 2 ^
   target-scene : (x : SceneEntry) → sceneOf (T x .key) ≡ toScene x
   target-scene x = key-scene f e h (toScene x) hf he hh (to-small x)
 
-  own-targets : (xs : List SceneEntry) → AllMine f (map T xs)
+  pub own-targets : (xs : List SceneEntry) → AllMine f (map T xs)
   own-targets xs =
       count-map (λ x. not (mine f x)) T xs ∙ count-none (λ x. not (mine f (T x))) (λ x. ap not (eq-eqb (fabricOf (T x .key)) f (target-fabric x))) xs
 

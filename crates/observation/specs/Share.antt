@@ -29,6 +29,10 @@ headOf (refusals.image s) = s .answer .state
 abbrev pub ModesStay : Type 0
 ModesStay = (c : refusals.Outward) (t : Table) → headOf (refusals.answer c t) .modes ≡ t .state .modes
 
+-- nor in the runs of demand 3
+abbrev pub ModesStayRun : Type 0
+ModesStayRun = (c : Call) (t : Table) → next c t .state .modes ≡ t .state .modes
+
 -- ---- no fabric has more than its share
 
 -- sat(N − 1) / 2. This minus stops at 0
