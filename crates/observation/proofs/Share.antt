@@ -16,12 +16,13 @@ use Rattle.slots.specs.Slots.{SceneEntry}
 use Rattle.records.specs.declared.Scope.{Scope}
 use Rattle.records.specs.declared.Scope.the-variants.{Scene, Group, Endpoint}
 use Rattle.requests.specs.Requests.{fieldsGate}
+use Rattle.reads.specs.Reads.{recallLookup}
 use Rattle.state.specs.Table.{Table, entriesIn}
 use Rattle.state.specs.Sound.{sound}
 use Rattle.state.specs.Capacity.{shareMode}
 use Rattle.state.proofs.Laws.{sound-bounds}
 use Rattle.observation.specs.Lists.{bit, count, find, keep}
-use Rattle.observation.specs.Calls.{Command, add, addRead, view, remove, removeAll, store, recall, copy, membership, info, Call, command, notice, removal, reset, start, failSafeEvent, load, answer, next, step, does, sceneKey, groupKey, copyRequest, CommandInRange, InRange}
+use Rattle.observation.specs.Calls.{Command, add, addRead, view, remove, removeAll, store, recall, copy, membership, info, Call, command, notice, removal, reset, start, failSafeEvent, load, answer, next, step, does, withState, sceneKey, groupKey, copyRequest, CommandInRange, InRange}
 use Rattle.observation.specs.Equivalence.{Reached, empty, after, keyIs, mine}
 use Rattle.observation.specs.Numbers.{oneOf, Among}
 use Rattle.observation.specs.Share.{brings, NoneSince, WithinShare, longFields, OnlyWhenFull}
@@ -284,12 +285,16 @@ module _ (f e : ℕ) (t : Table) (sd : sound t ≡ true) (hf : f < 2 ^ 8) (he : 
       subst (Full f) (sym (laws .commands f e t sd hf he .copy-acts mode g s k r m n′ h z))
       (cond-elim (Full f) (eqb (roomIn f (viewOf t)) 0) (λ q _. room-full f (viewOf t) (eqb-true (roomIn f (viewOf t)) 0 q))
       (λ _. copy-full f (scopeOf f e mode k r) (map (target f e mode k r) (sources f e mode g s (viewOf t))) (viewOf t))))
-  full (view g s m) h n = never (view g s m) (among-other _ _ (view-numbers (sceneKey f e g s) m t) refl)
-  full (remove g s m) h n = never (remove g s m) (among-other _ _ (remove-numbers (sceneKey f e g s) m t) refl)
-  full (removeAll g m) h n = never (removeAll g m) (among-other _ _ (removeAll-numbers (groupKey f e g) m t) refl)
-  full (recall g s m o a) h n = never (recall g s m o a) (among-other _ _ (recall-numbers (sceneKey f e g s) m _ a) refl)
-  full (membership g m buffer) h n = never (membership g m buffer) (among-other _ _ (membership-numbers (groupKey f e g) m t buffer) refl)
-  full (info single) h n = never (info single) (among-other _ _ (info-numbers f e single t) refl)
+  full (view g s m) h n = never (view g s m) (among-other (0 ∷ 1 ∷ 2 ∷ 6 ∷ 0x85 ∷ 0x87 ∷ 0x8B ∷ []) _ (view-numbers (sceneKey f e g s) m t) refl)
+  full (remove g s m) h n = never (remove g s m) (among-other (0 ∷ 1 ∷ 2 ∷ 6 ∷ 0x85 ∷ 0x87 ∷ 0x8B ∷ []) _ (remove-numbers (sceneKey f e g s) m t) refl)
+  full (removeAll g m) h n = never (removeAll g m) (among-other (0 ∷ 1 ∷ 2 ∷ 6 ∷ 0x85 ∷ []) _ (removeAll-numbers (groupKey f e g) m t) refl)
+  full (recall g s m o a) h n =
+      let key = sceneKey f e g s in
+      never (recall g s m o a)
+      (among-other (0 ∷ 1 ∷ 2 ∷ 4 ∷ 6 ∷ 0x85 ∷ 0x87 ∷ 0x8B ∷ []) _ (recall-numbers key m (withState (recallLookup key m o t .state) t) a) refl)
+  full (membership g m buffer) h n =
+      never (membership g m buffer) (among-other (0 ∷ 1 ∷ 2 ∷ 6 ∷ 8 ∷ 0x85 ∷ []) _ (membership-numbers (groupKey f e g) m t buffer) refl)
+  full (info single) h n = never (info single) (among-other (0 ∷ 1 ∷ 5 ∷ 6 ∷ []) _ (info-numbers f e single t) refl)
 
 pub only-when-full : OnlyWhenFull
 unfolding viewOf
