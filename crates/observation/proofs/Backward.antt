@@ -171,7 +171,7 @@ module _ (laws : Laws) (f : ℕ) (f1 : 1 ≤ f) (f255 : f ≤ 255) where
 
   -- ---- adds of fresh keys
 
-  abbrev adding : Command
+  abbrev pub adding : Command
   adding = add 0 1 0 Yes [] []
 
   -- a fresh key of one is fresh in the other
@@ -191,7 +191,7 @@ module _ (laws : Laws) (f : ℕ) (f1 : 1 ≤ f) (f255 : f ≤ 255) where
       record { e = r .0; fits = (hf, omega (arith, r .1), (omega arith, omega arith, omega arith, refl, refl)); here = ap found n; there = ap found (sym m ∙ n) }
 
   module _ (t : Table) (i : Standing t) (e : ℕ) (h : InRange (command f e adding)) where
-    adds : sees (command f e adding) t
+    pub adds : sees (command f e adding) t
         ≡ cond (placeFor f (probe f e) (viewOf t)) (done true, invalidated (Scene (sceneKey f e 0 1)) (written (entryOf (sceneKey f e 0 1) 0 []) (viewOf t))) (refuse insufficientSpace, viewOf t)
     adds = laws .commands f e t (i .intact) hf (h .1) .add-acts 0 1 0 Yes [] [] (h .2) (add-let (sceneKey f e 0 1) (record { fabric = f1; scene = refl }) maxFields)
 
@@ -199,7 +199,7 @@ module _ (laws : Laws) (f : ℕ) (f1 : 1 ≤ f) (f255 : f ≤ 255) where
     add-code = ap (λ (o : Seen). o .0 .status) adds ∙ code-place (placeFor f (probe f e) (viewOf t)) _ (viewOf t)
 
     -- an add of a fresh key takes one of the fabric's places
-    added : has (keyIs (probe f e)) (viewOf t .entries) ≡ false → ltb 0 (placesIn f (viewOf t)) ≡ true
+    pub added : has (keyIs (probe f e)) (viewOf t .entries) ≡ false → ltb 0 (placesIn f (viewOf t)) ≡ true
         → suc (placesIn f (viewOf (next (command f e adding) t))) ≡ placesIn f (viewOf t)
     unfolding invalidated
     added n l =

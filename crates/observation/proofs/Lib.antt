@@ -55,6 +55,7 @@ pub mod Modes
 pub mod Share
 pub mod Midway
 pub mod Readings
+pub mod ShareReadings
 pub mod Removal
 pub mod FieldBytes
 pub mod Buffers

@@ -24,18 +24,18 @@ use Rattle.observation.proofs.Theorem.{demand3}
 use Rattle.observation.proofs.Refusals.{left}
 
 -- a call of these runs computes too
-running : Unit {0}
+unfoldable pub running : Unit {0}
 unfolding step does computing
 running = tt
 
 -- a fabric adds, stores or removes a scene of group 0 on an endpoint
-abbrev adds : ℕ → ℕ → ℕ → Call
+abbrev pub adds : ℕ → ℕ → ℕ → Call
 adds f e s = command f e (add 0 s 5 Yes [] [])
 
 abbrev stores : ℕ → ℕ → ℕ → Call
 stores f e s = command f e (store 0 s Yes [])
 
-abbrev removes : ℕ → ℕ → ℕ → Call
+abbrev pub removes : ℕ → ℕ → ℕ → Call
 removes f e s = command f e (remove 0 s Yes)
 
 -- group, scene and whether valid
@@ -102,7 +102,7 @@ one-reached = empty-reached 1 (empty-sound .0)
 two-reached : Reached (emptyTable 2)
 two-reached = empty-reached 2 (empty-sound .1)
 
-added : (f e g s : ℕ) {t : Table} → f < 2 ^ 8 → e < 2 ^ 16 → g < 2 ^ 16 → s < 2 ^ 8 → Reached t → Reached (next (command f e (add g s 5 Yes [] [])) t)
+pub added : (f e g s : ℕ) {t : Table} → f < 2 ^ 8 → e < 2 ^ 16 → g < 2 ^ 16 → s < 2 ^ 8 → Reached t → Reached (next (command f e (add g s 5 Yes [] [])) t)
 added f e g s hf he hg hs r = after (command f e (add g s 5 Yes [] [])) (hf, he, (hg, hs, omega arith, refl, refl)) r
 
 storing : (f e s : ℕ) {t : Table} → f < 2 ^ 8 → e < 2 ^ 16 → s < 2 ^ 8 → Reached t → Reached (next (stores f e s) t)
