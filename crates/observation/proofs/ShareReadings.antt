@@ -3,7 +3,7 @@
 use Prim.Native.Nat.{ℕ, zero, suc, _+_, _-_, _/_, _%_, _≤_, _<_, min}
 use native.Mathlib.Omega.{arith}
 use mathlib.Core.Path.{_≡_, refl, sym, ap, ap₂, _∙_, subst₂}
-use mathlib.Core.Bool.{true, false, _||_}
+use mathlib.Core.Bool.{true, false, cond, _&&_, _||_}
 use mathlib.Core.List.{List, [], _∷_, map, List·Permᴰ, List·Permᴰ·nil, Permᴰ·refl}
 use mathlib.Core.Option.{none, Option·map}
 use lib.Dec.{eqb, ltb}
@@ -12,6 +12,7 @@ use borrow.Author.Tests.{lt-ltb, ne-eqb}
 use Rattle.words.specs.Constants.{success, maxRemaining}
 use Rattle.words.specs.Words.{fabricOf}
 use Rattle.words.specs.Below.{positions}
+use Rattle.words.proofs.Tests.{and-true}
 use Rattle.slots.specs.Slots.{SceneEntry}
 use Rattle.records.specs.declared.Scope.the-variants.{Scene}
 use Rattle.records.specs.Records.{cleared}
@@ -19,6 +20,7 @@ use Rattle.requests.specs.declared.Membership.the-variants.{Yes}
 use Rattle.state.specs.Table.{Table, emptyTableWith, entriesIn, recordsIn}
 use Rattle.state.specs.Sound.{sound}
 use Rattle.state.specs.Capacity.{shareMode}
+use Rattle.state.proofs.Capacity.{places-free}
 use Rattle.scenes.proofs.Computing.{soundness}
 use Rattle.image_load.proofs.Computing.{loading}
 use Rattle.observation.specs.Lists.{bit, count, find, keep}
@@ -26,13 +28,14 @@ use Rattle.observation.specs.Calls.{remove, command, load, answer, next,
 use Rattle.observation.specs.Equivalence.{Reached, empty, after, Equivalent, Agree, keyIs, mine, ofFabric, seen, placesOf, scenesOf, currentOf, recordFits}
 use Rattle.observation.proofs.Lists.{found, has}
 use Rattle.observation.proofs.Lookups.{entryOf}
-use Rattle.observation.proofs.Changes.{viewOf, usedIn, roomIn, placesIn, placeFor, written, invalidated}
+use Rattle.observation.proofs.Changes.{viewOf, freeIn, usedIn, roomIn, placesIn, placeFor, written, invalidated}
 use Rattle.observation.proofs.Effects.{Seen, sees, done}
-use Rattle.observation.proofs.Counts.{count-put, opt, none-find}
+use Rattle.observation.proofs.Counts.{count-ext, count-keep, count-put, opt, none-find}
 use Rattle.observation.proofs.Choices.{bit-zero, length-put-has}
 use Rattle.observation.proofs.Bits.{key-fabric}
 use Rattle.observation.proofs.Places.{share-places}
-use Rattle.observation.proofs.Views.{records-length}
+use Rattle.observation.proofs.Order.{perm-often}
+use Rattle.observation.proofs.Views.{entries-length, records-length}
 use Rattle.observation.proofs.ActsReads.{places}
 use Rattle.observation.proofs.Calls.{laws}
 use Rattle.observation.proofs.Probes.{probe, fresh-key}
@@ -41,7 +44,7 @@ use Rattle.observation.proofs.Backward as backward
 use Rattle.observation.proofs.Readings.{running, adds, removes, added, OneKind, one-kind, same, told}
 
 -- free places, whatever the mode
-abbrev free : Table → ℕ
+abbrev pub free : Table → ℕ
 free t = t .state .size - t .state .entries
 
 -- an empty table in share mode
@@ -88,6 +91,36 @@ alone-free = (refl, refl)
 -- "free places, in share mode too": two tables are equivalent and differ in free places
 pub places-not-free : Equivalent 1 alone beside × (free alone ≡ 2) × (free beside ≡ 1)
 places-not-free = (same alone beside alone-reached beside-reached alone-kind alone-agree, alone-free .0, alone-free .1)
+
+-- the other way this reading holds: free places, with the fabric's own scenes, say how many places it has
+pub record AgreeByFree (f : ℕ) (s t : Table) : Type 0 where
+  pub places : free s ≡ free t
+  pub scenes : List·Permᴰ (scenesOf f s) (scenesOf f t)
+  pub recorded : Option·map seen (currentOf f s) ≡ Option·map seen (currentOf f t)
+  pub oneMore : currentOf f s ≡ none → 0 < count (mine f) (entriesIn s) + free s → recordFits s ≡ recordFits t
+
+used-same : (f : ℕ) (s t : Table) → List·Permᴰ (scenesOf f s) (scenesOf f t) → usedIn f (viewOf s) ≡ usedIn f (viewOf t)
+unfolding viewOf
+used-same f s t p =
+    let all : (u : Table) → count (mine f) (entriesIn u) ≡ count (λ _. true) (scenesOf f u) = λ u.
+    count-ext (mine f) (λ x. mine f x && true) (λ x. sym (and-true (mine f x))) (entriesIn u) ∙ sym (count-keep (λ _. true) (mine f) (entriesIn u)) in
+    all s ∙ perm-often p (λ _. true) ∙ sym (all t)
+
+places-by-free : (f : ℕ) (s t : Table) → OneKind s t → free s ≡ free t → usedIn f (viewOf s) ≡ usedIn f (viewOf t) → placesOf f s ≡ placesOf f t
+unfolding viewOf placesIn roomIn
+places-by-free f s t z e u =
+    let free-in : freeIn (viewOf s) ≡ freeIn (viewOf t) = ap (λ (n : ℕ). s .state .size - n) (entries-length s) ∙ e ∙ sym (ap (λ (n : ℕ). t .state .size - n) (entries-length t)) in
+    places f s ∙ (λ i. cond (z .mode i) (min ((z .size i - 1) / 2 - u i) (free-in i)) (free-in i)) ∙ sym (places f t)
+
+pub free-enough : (s t : Table) → Reached s → Reached t → OneKind s t → AgreeByFree 1 s t → Equivalent 1 s t
+free-enough s t r q z a =
+    same s t r q z
+    (record {
+      places = places-by-free 1 s t z (a .places) (used-same 1 s t (a .scenes));
+      scenes = a .scenes;
+      recorded = a .recorded;
+      oneMore = λ n h. a .oneMore n (omega (arith, h, places-free (s .state) (s .slots .keys) 1));
+    })
 
 -- ---- free places in the fourth matter
 

@@ -19,7 +19,7 @@ use Rattle.state.specs.Table.{Table, tableOf, currentOf, Room, withEntri
 use Rattle.state.specs.Sound.{inBounds, sound}
 use Rattle.state.specs.Capacity.{shareMode, mayAppend}
 use Rattle.state.specs.Current.{invalidateCurrent}
-use Rattle.state.specs.Change.{findScene, putAt, append, Upserted, upsertedOf, written, upsertAt, upsert, plainAt, WithoutShare}
+use Rattle.state.specs.Change.{findScene, putAt, append, Upserted, upsertedOf, written, upsertAt, upsert, plainAt, UpsertByShare}
 use Rattle.state.proofs.Capacity.{may-free}
 
 -- ---- soundness
@@ -91,9 +91,12 @@ plain-at (At p) key time ext t e = refl
 plain-at Nothing key time ext t e =
     ap (λ (b : Bool). cond b (written key (withEntries (append key time ext) t)) (upsertedOf insufficientSpace t)) (may-free (t .state) (t .slots .keys) (key .fabric) e)
 
-pub without-share : WithoutShare
-unfolding upsert
-without-share key time ext t e = plain-at (findScene key t) key time ext t e
+pub upsert-by-share : UpsertByShare
+unfolding upsert upsertAt
+upsert-by-share = record {
+  without = λ key time ext t e. plain-at (findScene key t) key time ext t e;
+  known = λ key time ext t p e. ap (λ (f : Found). upsertAt f key time ext t) e;
+}
 
 -- the slots and the records that the code leaves are the definition's; w is the key's word
 

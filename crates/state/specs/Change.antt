@@ -53,17 +53,19 @@ upsertAt Nothing key time ext t =
 unfoldable pub upsert : SceneKey → ℕ → List ℕ → Table → Upserted
 upsert key time ext t = upsertAt (findScene key t) key time ext t
 
--- the theorem of Q-5 about adds and stores: without the share mode an upsert is that of document 01, in which 0x89 means a full table. No other
--- definition of a call looks at the modes
+-- the upsert of document 01, by which 0x89 means a full table
 abbrev pub plainAt : Found → SceneKey → ℕ → List ℕ → Table → Upserted
 plainAt (At p) key time ext t = written key (withEntries (putAt p key time ext) t)
 plainAt Nothing key time ext t =
     cond (ltb (t .state .entries) (t .state .size)) (written key (withEntries (append key time ext) t)) (upsertedOf insufficientSpace t)
 
-abbrev pub WithoutShare : Type 0
-WithoutShare =
-    (key : SceneKey) (time : ℕ) (ext : List ℕ) (t : Table) → shareMode (t .state) ≡ false
-    → upsert key time ext t ≡ plainAt (findScene key t) key time ext t
+-- the theorem of Q-5 about adds and stores: without the share mode an upsert is that one, and in it too where the key is known. No other
+-- definition of a call looks at the modes
+pub record UpsertByShare : Type 0 where
+  pub without : (key : SceneKey) (time : ℕ) (ext : List ℕ) (t : Table) → shareMode (t .state) ≡ false
+      → upsert key time ext t ≡ plainAt (findScene key t) key time ext t
+  pub known : (key : SceneKey) (time : ℕ) (ext : List ℕ) (t : Table) (p : ℕ) → findScene key t ≡ At p
+      → upsert key time ext t ≡ plainAt (At p) key time ext t
 
 -- the save mark is set for status 0
 abbrev pub saved : Upserted → Result
