@@ -86,28 +86,60 @@ module _ (P : ℕ → Type 0) (zero-is : P success) where
     pub add-gate-is : P badPair → (key : SceneKey) (time : ℕ) (pairs : List ℕ) (len : ℕ) → P (fieldsGate maxFields len) → P (addGate key time m pairs maxFields len)
     unfolding addGate
     add-gate-is bad key time pairs len fields =
-        first-each _ (fabric-is none (key .fabric), (scene-is reserved (key .scene), (refuse-if (ltb maxTime time) constraintError reserved,
-        (member-is never failed (key .group) m, (pairs-are never bad pairs, (fields, tt))))))
+        first-each _ (
+          fabric-is none (key .fabric),
+          (
+            scene-is reserved (key .scene),
+            (
+              refuse-if (ltb maxTime time) constraintError reserved,
+              (member-is never failed (key .group) m, (pairs-are never bad pairs, (fields, tt))),
+            ),
+          ),
+        )
 
     pub addRead-gate-is : P badPair → P badFieldSets → (key : SceneKey) (time : ℕ) (pairs ext : List ℕ) → P (fieldsGate maxFields (length ext))
         → P (addReadGate key time m pairs maxFields ext)
     unfolding addReadGate fieldSetsGate
     addRead-gate-is bad eleven key time pairs ext fields =
-        first-each _ (fabric-is none (key .fabric), (scene-is reserved (key .scene), (refuse-if (ltb maxTime time) constraintError reserved,
-        (member-is never failed (key .group) m, (refuse-if (not (holdsPairs (length pairs) (setsIn ext))) badFieldSets eleven, (pairs-are never bad pairs, (fields, tt)))))))
+        first-each _ (
+          fabric-is none (key .fabric),
+          (
+            scene-is reserved (key .scene),
+            (
+              refuse-if (ltb maxTime time) constraintError reserved,
+              (member-is never failed (key .group) m, (refuse-if (not (holdsPairs (length pairs) (setsIn ext))) badFieldSets eleven, (pairs-are never bad pairs, (fields, tt)))),
+            ),
+          ),
+        )
 
     pub store-gate-is : P captureTooLong → (key : SceneKey) (len : ℕ) → P (storeGate key m maxFields len)
     unfolding storeGate
     store-gate-is long key len =
-        first-each _ (fabric-is none (key .fabric), (scene-is reserved (key .scene), (member-is never failed (key .group) m,
-        (refuse-if (ltb maxFields (len + 1)) captureTooLong long, tt))))
+        first-each _ (
+          fabric-is none (key .fabric),
+          (
+            scene-is reserved (key .scene),
+            (
+              member-is never failed (key .group) m,
+              (refuse-if (ltb maxFields (len + 1)) captureTooLong long, tt),
+            ),
+          ),
+        )
 
     pub copy-gate-is : (c : CopyRequest) (n : Membership) → P (copyGate c m n)
     unfolding copyGate
     copy-gate-is c n =
         let copied-gate : (s : ℕ) → P (copiedGate (c .mode) s) = λ s. either P (wholeGroup (c .mode)) zero-is (scene-is reserved s) in
-        first-each _ (fabric-is none (c .fabric), (copied-gate (c .from .scene), (copied-gate (c .to .scene),
-        (member-is never failed (c .from .group) m, (member-is never failed (c .to .group) n, tt)))))
+        first-each _ (
+          fabric-is none (c .fabric),
+          (
+            copied-gate (c .from .scene),
+            (
+              copied-gate (c .to .scene),
+              (member-is never failed (c .from .group) m, (member-is never failed (c .to .group) n, tt)),
+            ),
+          ),
+        )
 
   -- fault 6, the request's refusal, or what the table decides
   guarded-is : {A : Type 0} (status : A → ℕ) (refuse : ℕ → A) → ((n : ℕ) → status (refuse n) ≡ n) → (t : Table) (gate : ℕ) (o : A)

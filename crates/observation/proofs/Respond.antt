@@ -109,7 +109,7 @@ module _ (f e : ℕ) (hf : f < 2 ^ 8) (he : e < 2 ^ 16) where
             cond-two (Kept f c) (placeFor f k v) (placeFor f k w) (sim-place f v w a k h (j .good))
             (λ q _. kept refl (sim-invalidated f (Scene key) (written x v) (written x w) (scene-seen key) (sim-put f v w a x h i j (placed f k v q))))
             (λ _ _. kept refl a);
-        leaves = λ v i. 
+        leaves = λ v i.
             cond-elim (λ (o : Seen). Inv (o .1)) (placeFor f k v)
             (λ q. invalidated-inv (Scene key) (written x v) (written-inv x v fine (λ n. places-free f v (placed f k v q n)) i)) (λ _. i);
       }

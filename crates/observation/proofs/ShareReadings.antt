@@ -340,10 +340,10 @@ places-not-cut-shared =
       c .0,
       alike,
       (λ e.
-      omega (
-        arith,
-        told (b .0) (c .0) (kb .reached) (kc .reached) (alike .kind) e .places,
-        places 1 (b .0) ∙ left-for 255 1 (b .0) kb ub,
-        places 1 (c .0) ∙ left-for 256 1 (c .0) kc uc,
-      )),
+          omega (
+            arith,
+            told (b .0) (c .0) (kb .reached) (kc .reached) (alike .kind) e .places,
+            places 1 (b .0) ∙ left-for 255 1 (b .0) kb ub,
+            places 1 (c .0) ∙ left-for 256 1 (c .0) kc uc,
+          )),
     )

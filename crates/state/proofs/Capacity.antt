@@ -2,7 +2,7 @@
 use Prim.Native.Nat.{ℕ, _-_, _/_, _≤_, _<_, min}
 use mathlib.Core.Path.{_≡_, refl, sym, ap, _∙_}
 use mathlib.Core.Logic.{_↔_}
-use mathlib.Core.Bool.{Bool, true, false, cond, not}
+use mathlib.Core.Bool.{true, false, not}
 use mathlib.Core.List.{List}
 use native.Mathlib.Omega.{arith}
 use lib.Dec.{eqb, ltb}
@@ -55,14 +55,18 @@ left n k to from =
     ]) refl
 
 module _ (s : ScenesState) (keys : List ℕ) (fabric : ℕ) where
+  uncut : shareMode s ≡ true → s .size ≡ 1024 → s .entries ≡ 0 → placesFor s keys fabric ≡ 511
+  unfolding placesFor remaining roomFor countKeys countBelow
+  uncut e h z = rw (e, h, z) refl
+
   -- the places in either mode
   pub free-places : shareMode s ≡ false → placesFor s keys fabric ≡ s .size - s .entries
   unfolding placesFor
-  free-places e = ap (λ (b : Bool). cond b (roomFor s keys fabric) (s .size - s .entries)) e
+  free-places e = rw e refl
 
   pub share-places : shareMode s ≡ true → placesFor s keys fabric ≡ roomFor s keys fabric
   unfolding placesFor
-  share-places e = ap (λ (b : Bool). cond b (roomFor s keys fabric) (s .size - s .entries)) e
+  share-places e = rw e refl
 
   pub may-free : shareMode s ≡ false → mayAppend s keys fabric ≡ ltb (s .entries) (s .size)
   may-free e = ap (ltb 0) (free-places e) ∙ above (s .entries) (s .size)
@@ -72,10 +76,6 @@ module _ (s : ScenesState) (keys : List ℕ) (fabric : ℕ) where
 
   within : shareMode s ≡ true → mayAppend s keys fabric ≡ not (eqb (remaining s keys fabric) 0)
   within e = may-share e ∙ left (roomFor s keys fabric) (remaining s keys fabric) (none-left s keys fabric .1) (none-left s keys fabric .0)
-
-  uncut : shareMode s ≡ true → s .size ≡ 1024 → s .entries ≡ 0 → placesFor s keys fabric ≡ 511
-  unfolding roomFor countKeys countBelow
-  uncut e h z = share-places e ∙ rw (h, z) refl
 
   room-free : roomFor s keys fabric ≤ s .size - s .entries
   unfolding roomFor
