@@ -1,5 +1,5 @@
 //! What our program is given and what it has to write, by the oracle's answers.
-use crate::run::{is_dumped, is_raw, Lines, NO_BYTES};
+use crate::run::{is_dumped, is_raw, Lines, NO_BYTES, SHARE};
 use crate::tally::{Call, Counts, Tally};
 
 /// The first difference: the line of the script, and what differs.
@@ -69,6 +69,7 @@ fn report(remaining: Option<&mut &str>) {
 
 /// The oracle's answer as our program writes it.
 pub fn our_answer(line: &str, answer: &str) -> String {
+    let answer = answer.strip_suffix(SHARE).unwrap_or(answer);
     let mut words: Vec<&str> = answer.split(' ').collect();
     match words[0] {
         "B" => {
@@ -101,6 +102,7 @@ pub fn compare(
     tally: &mut Tally,
 ) -> Result<(), Difference> {
     let mut before = Counts::default();
+    let mut table: &[u8] = &[];
     tally.start(script);
     for (at, line) in script.iter().enumerate() {
         let differ = |what: String| Err(Difference { at, what });
@@ -125,9 +127,9 @@ pub fn compare(
         }
         let after = Counts::read(answer);
         if !is_raw(line) {
-            tally.count(&Call { line, answer, before, after, dump });
+            tally.count(&Call { line, answer, before, after, dump }, table);
         }
-        before = after;
+        (before, table) = (after, dump);
     }
     Ok(())
 }

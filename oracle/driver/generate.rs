@@ -6,15 +6,15 @@ use crate::run::NO_BYTES;
 use crate::sizes;
 
 #[derive(Clone, Copy)]
-struct Key {
-    fabric: u8,
-    endpoint: u16,
-    group: u16,
-    scene: u8,
+pub struct Key {
+    pub fabric: u8,
+    pub endpoint: u16,
+    pub group: u16,
+    pub scene: u8,
 }
 
 impl Key {
-    fn words(&self) -> String {
+    pub fn words(&self) -> String {
         format!("{} {} {} {}", self.fabric, self.endpoint, self.group, self.scene)
     }
 
@@ -24,12 +24,12 @@ impl Key {
 }
 
 /// What the calls of a script choose from: small ranges, and the keys that were written before, so that hits are common.
-struct Universe {
-    fabrics: Vec<u8>,
-    endpoints: Vec<u16>,
-    groups: Vec<u16>,
-    scenes: Vec<u8>,
-    written: Vec<Key>,
+pub struct Universe {
+    pub fabrics: Vec<u8>,
+    pub endpoints: Vec<u16>,
+    pub groups: Vec<u16>,
+    pub scenes: Vec<u8>,
+    pub written: Vec<Key>,
 }
 
 impl Universe {
@@ -187,7 +187,7 @@ fn weighted(random: &mut Random, letters: &[(char, usize)]) -> char {
     unreachable!("the weights are summed up above")
 }
 
-fn call(random: &mut Random, u: &mut Universe, letters: &[(char, usize)]) -> String {
+pub fn call(random: &mut Random, u: &mut Universe, letters: &[(char, usize)]) -> String {
     // Rare, since they empty the table.
     if random.below(150) == 0 {
         return random.pick(&["Z", "U"]).into();
@@ -235,22 +235,25 @@ fn raw_time(random: &mut Random) -> u32 {
 const STRANGER: u8 = 77;
 
 /// Entries and records as they stand, keys and fabrics repeated as they fall.
-fn raw_table(random: &mut Random, u: &mut Universe, size: usize, script: &mut Vec<String>) {
+pub fn raw_table(random: &mut Random, u: &mut Universe, size: usize, script: &mut Vec<String>) {
     for _ in 0..filled(random, size) {
         let key = u.any(random);
         u.written.push(key);
         script.push(format!("e {} {} {}", key.words(), raw_time(random), hex(&fields::held(random))));
     }
     if random.percent(10) {
-        // The list is full of another's records, so that what is to be remembered is dropped.
-        let stranger = format!("r {STRANGER} 1 0 1 1");
-        return script.extend(vec![stranger; size]);
+        return strangers(size, script);
     }
     let records = if random.percent(70) { filled(random, size) } else { 0 };
     raw_records(random, u, records, script);
 }
 
-fn raw_records(random: &mut Random, u: &Universe, count: usize, script: &mut Vec<String>) {
+/// Fills the list with another's records, so that what is to be remembered is dropped.
+pub fn strangers(size: usize, script: &mut Vec<String>) {
+    script.extend(vec![format!("r {STRANGER} 1 0 1 1"); size]);
+}
+
+pub fn raw_records(random: &mut Random, u: &Universe, count: usize, script: &mut Vec<String>) {
     for _ in 0..count {
         script.push(format!("r {} {}", u.any(random).words(), random.percent(80) as u8));
     }
@@ -294,7 +297,7 @@ fn crowded(random: &mut Random) -> Vec<String> {
     script
 }
 
-fn large_universe(random: &mut Random) -> Universe {
+pub fn large_universe(random: &mut Random) -> Universe {
     let first = random.below(180) as u8;
     Universe {
         fabrics: vec![1, 1, 1, 1, 2, 2, random.pick(&[3, 7, 255])],
@@ -306,7 +309,7 @@ fn large_universe(random: &mut Random) -> Universe {
 }
 
 /// Entries of a large table as they stand: one fabric around its share, or around 255 entries, others behind it.
-fn large_entries(random: &mut Random, size: usize, script: &mut Vec<String>) {
+pub fn large_entries(random: &mut Random, size: usize, script: &mut Vec<String>) {
     let share = (size - 1) / 2;
     let own = random.pick(&[share, share - 1, share - 2, share - 5, 254, 255, 256, 300, size, 20]).min(size);
     let all = random.pick(&[size, size - 1, size - 2, own, own, own + 40]).clamp(own, size);
@@ -341,7 +344,7 @@ fn large_raw(random: &mut Random) -> Vec<String> {
 
 /// A large table reached from empty: some scenes of one group, copied whole to others until the share is used up, then
 /// the same for a second fabric.
-fn large_grown(random: &mut Random) -> Vec<String> {
+pub fn large_grown(random: &mut Random) -> Vec<String> {
     let size = random.pick(&sizes::LARGE);
     let mut u = large_universe(random);
     let mut script = vec![format!("N {size}")];
@@ -402,7 +405,7 @@ fn image_keys(random: &mut Random, u: &Universe, count: usize) -> Vec<Key> {
 }
 
 /// An image of a table of about this size.
-fn image(random: &mut Random, u: &mut Universe, size: usize) -> Vec<u8> {
+pub fn image(random: &mut Random, u: &mut Universe, size: usize) -> Vec<u8> {
     let most = if random.percent(5) { size + 1 } else { size };
     let count = filled(random, most).min(random.pick(&[1, 2, 3, 5, 12, 12, 2000]));
     let keys = image_keys(random, u, count);
@@ -462,16 +465,20 @@ pub fn images(seed: u64, index: u64) -> Vec<String> {
     imaged(&mut random, if large { &sizes::LARGE } else { &sizes::SMALL }, if large { 4 } else { 30 })
 }
 
+/// A script of any kind.
+pub fn any(random: &mut Random) -> Vec<String> {
+    match random.below(1000) {
+        0..680 => small(random),
+        680..720 => crowded(random),
+        720..760 => large_raw(random),
+        760..770 => large_grown(random),
+        770..779 => imaged(random, &sizes::LARGE, 5),
+        779..879 => capped(random),
+        _ => imaged(random, &sizes::SMALL, 20),
+    }
+}
+
 /// The script of a seed and an index.
 pub fn script(seed: u64, index: u64) -> Vec<String> {
-    let mut random = Random::new(seed, index);
-    match random.below(1000) {
-        0..680 => small(&mut random),
-        680..720 => crowded(&mut random),
-        720..760 => large_raw(&mut random),
-        760..770 => large_grown(&mut random),
-        770..779 => imaged(&mut random, &sizes::LARGE, 5),
-        779..879 => capped(&mut random),
-        _ => imaged(&mut random, &sizes::SMALL, 20),
-    }
+    any(&mut Random::new(seed, index))
 }

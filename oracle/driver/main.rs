@@ -1,4 +1,5 @@
 //! The driver of differential runs: gives the same scripts to the oracle and to our program, and compares.
+mod bounds;
 mod compare;
 mod fields;
 mod findings;
@@ -9,6 +10,7 @@ mod random;
 mod reader;
 mod record;
 mod run;
+mod shares;
 mod shrink;
 mod sizes;
 mod strict;
@@ -18,6 +20,7 @@ use std::process::exit;
 use std::sync::mpsc::{sync_channel, Receiver};
 use std::time::Instant;
 
+use bounds::Bounds;
 use compare::Difference;
 use run::Lines;
 use shrink::Programs;
@@ -47,7 +50,7 @@ fn joined(scripts: &[Vec<String>], text: fn(&[String]) -> String) -> String {
     scripts.iter().map(|script| text(script)).collect()
 }
 
-/// What makes the script of a seed and an index: any, or one of images.
+/// What makes the script of a seed and an index: any, one of images, or one in share mode.
 type Scripts = fn(u64, u64) -> Vec<String>;
 
 /// The scripts of a seed from an index on. A large table counts for more calls: its dumps are long.
@@ -133,13 +136,44 @@ fn complete(missing: &[String], calls: u64) -> bool {
     calls < COMPLETE
 }
 
+/// What a run compares.
+#[derive(Clone, Copy, PartialEq)]
+enum Kind {
+    Calls,
+    Images,
+    Share,
+}
+
+impl Kind {
+    fn make(self) -> Scripts {
+        match self {
+            Kind::Calls => generate::script,
+            Kind::Images => generate::images,
+            Kind::Share => shares::script,
+        }
+    }
+
+    /// What was met too rarely.
+    fn missing(self, tally: &Tally) -> Vec<String> {
+        let mut missing = tally.missing(WANTED);
+        match self {
+            Kind::Calls => missing.extend(tally.missing_cut(WANTED)),
+            Kind::Images => missing.retain(|answer| answer.starts_with(['P', 'G'])),
+            Kind::Share => missing.extend(tally.bounds.iter().flat_map(|bounds| bounds.missing(WANTED))),
+        }
+        missing
+    }
+}
+
 /// Compares so many calls, or so many images.
-fn differential(programs: &Programs, seed: u64, wanted: u64, images: bool) -> bool {
+fn differential(programs: &Programs, seed: u64, wanted: u64, kind: Kind) -> bool {
     let start = Instant::now();
     let mut tally = Tally::default();
-    let make: Scripts = if images { generate::images } else { generate::script };
-    let batches = batches(programs.oracle.clone(), make, seed);
-    while wanted > if images { tally.images } else { tally.calls } {
+    if kind == Kind::Share {
+        tally.bounds = Some(Bounds::default());
+    }
+    let batches = batches(programs.oracle.clone(), kind.make(), seed);
+    while wanted > if kind == Kind::Images { tally.images } else { tally.calls } {
         match batches.recv() {
             Ok(Ok(batch)) => compare_batch(programs, seed, &batch, &mut tally),
             Ok(Err(what)) => fail(&what),
@@ -148,13 +182,9 @@ fn differential(programs: &Programs, seed: u64, wanted: u64, images: bool) -> bo
     }
     tally.print();
     let seconds = start.elapsed().as_secs();
-    let Tally { calls, images: loads, scripts, .. } = tally;
+    let Tally { calls, images: loads, scripts, .. } = &tally;
     println!("seed {seed}: {calls} calls in {scripts} scripts, {loads} of them loads of an image, no difference, {seconds} s");
-    let mut missing = tally.missing(WANTED);
-    if images {
-        missing.retain(|answer| answer.starts_with(['P', 'G']));
-    }
-    complete(&missing, wanted)
+    complete(&kind.missing(&tally), wanted)
 }
 
 /// Counts the images that the Rust takes with the members of a record in any order, and not with them in the order of their
@@ -200,7 +230,9 @@ fn main() {
             let (seed, calls) = (number(&words, 3, "seed"), number(&words, 4, "calls"));
             match word(5).as_str() {
                 "fields" => complete(&reader::compare(&programs, seed, calls, WANTED), calls),
-                kind => differential(&programs, seed, calls, kind == "images"),
+                "images" => differential(&programs, seed, calls, Kind::Images),
+                "share" => differential(&programs, seed, calls, Kind::Share),
+                _ => differential(&programs, seed, calls, Kind::Calls),
             }
         }
         "orders" => match orders(&word(1), number(&words, 2, "seed"), number(&words, 3, "images")) {
@@ -211,7 +243,7 @@ fn main() {
             Ok(()) => true,
             Err(what) => fail(&what),
         },
-        _ => fail("usage: driver compare ORACLE OURS SEED CALLS [images | fields], driver orders ORACLE SEED IMAGES, or driver record ORACLE SEED STDIN STDOUT"),
+        _ => fail("usage: driver compare ORACLE OURS SEED CALLS [images | share | fields], driver orders ORACLE SEED IMAGES, or driver record ORACLE SEED STDIN STDOUT"),
     };
     exit(if done { 0 } else { 1 })
 }

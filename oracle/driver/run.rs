@@ -21,6 +21,17 @@ pub fn run_with(program: &str, options: &[&str], input: String) -> Result<Vec<u8
     Ok(output)
 }
 
+/// What stands behind the oracle's answer to an add or a store that only the share refuses: the oracle has decided it, and not
+/// the Rust.
+pub const SHARE: &str = " SHARE";
+
+/// The size of a script's table, and its modes if they are given.
+pub fn made(script: &[String]) -> (usize, Option<u8>) {
+    let mut words = script[0].split(' ').skip(1);
+    let size = words.next().and_then(|word| word.parse().ok()).unwrap_or(0);
+    (size, words.next().and_then(|word| word.parse().ok()))
+}
+
 /// Whether a line builds a table up as it stands, and is no call.
 pub fn is_raw(line: &str) -> bool {
     line.starts_with(['N', 'K', 'e', 'r'])

@@ -1,6 +1,6 @@
 //! The smallest script that still shows a difference.
 use crate::compare::{compare, our_script, Difference};
-use crate::run::{run, rust_text, text, Lines};
+use crate::run::{made, run, rust_text, text, Lines};
 use crate::sizes::{LARGE, SMALL};
 use crate::tally::Tally;
 
@@ -69,20 +69,28 @@ impl Programs {
         script
     }
 
-    /// Takes the smallest table that still shows the difference.
-    fn with_smaller_table(&self, script: Vec<String>) -> Vec<String> {
-        let size: usize = script[0][2..].parse().unwrap_or(0);
-        let mut smaller: Vec<usize> = SMALL.iter().chain(&LARGE).copied().filter(|s| *s < size).collect();
-        smaller.sort();
-        smaller.dedup();
-        for size in smaller {
-            let mut smaller = script.clone();
-            smaller[0] = format!("N {size}");
-            if self.differs(&smaller) {
-                return smaller;
+    /// Takes the first table that still shows the difference, out of some that are made otherwise.
+    fn with_table(&self, script: Vec<String>, tables: impl Iterator<Item = (usize, Option<u8>)>) -> Vec<String> {
+        for (size, modes) in tables {
+            let mut other = script.clone();
+            other[0] = format!("N {size}") + &modes.map_or(String::new(), |modes| format!(" {modes}"));
+            if self.differs(&other) {
+                return other;
             }
         }
         script
+    }
+
+    /// Takes the smallest table that still shows the difference, without modes or else with 1 where that does.
+    fn with_smaller_table(&self, script: Vec<String>) -> Vec<String> {
+        let (size, modes) = made(&script);
+        let mut smaller: Vec<usize> = SMALL.iter().chain(&LARGE).copied().filter(|s| *s < size).collect();
+        smaller.sort();
+        smaller.dedup();
+        let script = self.with_table(script, smaller.into_iter().map(|size| (size, modes)));
+        let (size, modes) = made(&script);
+        let plainer = [None, Some(1)].into_iter().take_while(|plain| *plain != modes);
+        self.with_table(script, plainer.map(|modes| (size, modes)))
     }
 
     /// Shortens a script until no line can be left out.

@@ -16,3 +16,8 @@ pub const LARGE: [usize; 30] = [
 
 /// Around both caps: with few entries a fabric's remaining capacity passes them one by one.
 pub const CAPPED: [usize; 9] = [507, 508, 509, 510, 511, 512, 513, 514, 515];
+
+/// In share mode: those where no fabric has a share (0, 1, 2), where it is one scene (3), and those where few scenes reach it.
+pub const SHARED: [usize; 36] = [
+    0, 0, 0, 1, 1, 1, 2, 2, 2, 3, 3, 3, 3, 4, 5, 6, 7, 7, 7, 8, 8, 8, 9, 10, 11, 12, 16, 16, 16, 17, 17, 17, 18, 24, 33, 64,
+];

@@ -1,8 +1,10 @@
 //! What was compared: calls by kind and answer.
 use std::collections::BTreeMap;
 
+use crate::bounds::Bounds;
 use crate::fields::hex;
 use crate::images::{canonical, Entry, Record};
+use crate::run::{made, SHARE};
 
 /// Entries, records and version behind an answer.
 #[derive(Clone, Copy, Default)]
@@ -36,11 +38,11 @@ pub struct Call<'a> {
 }
 
 impl Call<'_> {
-    fn word(&self, at: usize) -> &str {
+    pub fn word(&self, at: usize) -> &str {
         self.line.split(' ').nth(at).unwrap_or("")
     }
 
-    fn said(&self, at: usize) -> &str {
+    pub fn said(&self, at: usize) -> &str {
         self.answer.split(' ').nth(at).unwrap_or("")
     }
 
@@ -49,7 +51,7 @@ impl Call<'_> {
         self.word(group) != "0" && self.word(member) == answer
     }
 
-    fn grew(&self) -> bool {
+    pub fn grew(&self) -> bool {
         self.before.entries < self.after.entries
     }
 
@@ -66,6 +68,7 @@ impl Call<'_> {
             ("A", "00") => either(self.grew(), "new scene", "known scene"),
             ("A", "85") => either(self.consulted(3, 6, "0"), "membership", "attribute not scenable"),
             ("A", "87") => either(matches!(self.word(4), "0" | "255"), "scene", "time"),
+            ("A" | "S", "89") if self.answer.ends_with(SHARE) => "only the share",
             ("A", "89") => either(self.word(8).len() > 256, "fields too long", "table full"),
             ("S", "00") if self.dropped(size) => "record dropped",
             ("S", "00") => either(self.grew(), "new scene", "known scene"),
@@ -95,11 +98,11 @@ impl Call<'_> {
     }
 
     /// Whether a copy is of a whole group.
-    fn whole(&self) -> bool {
+    pub fn whole(&self) -> bool {
         self.word(3).parse::<u8>().is_ok_and(|mode| mode % 2 == 1)
     }
 
-    fn letter(&self) -> &'static str {
+    pub fn letter(&self) -> &'static str {
         const LETTERS: [&str; 17] = ["A", "S", "V", "R", "X", "C", "L", "M", "I", "T", "F", "Z", "U", "W", "E", "P", "G"];
         let letter = if self.line.starts_with('B') { "A" } else { &self.line[..1] };
         LETTERS.iter().copied().find(|l| *l == letter).unwrap_or("?")
@@ -173,20 +176,26 @@ pub struct Tally {
     others: BTreeMap<&'static str, u64>,
     size: usize,
     raw: bool,
+    /// What was met in share mode, where that is asked for.
+    pub bounds: Option<Bounds>,
 }
 
 impl Tally {
     pub fn start(&mut self, script: &[String]) {
         self.scripts += 1;
-        self.size = script[0][2..].parse().unwrap_or(0);
+        self.size = made(script).0;
         self.raw = script.iter().any(|line| line.starts_with(['e', 'r']));
+        if let Some(bounds) = &mut self.bounds {
+            bounds.start(script);
+        }
     }
 
     fn other(&mut self, what: &'static str) {
         *self.others.entry(what).or_default() += 1;
     }
 
-    pub fn count(&mut self, call: &Call<'_>) {
+    /// Counts a call on a table that was dumped before.
+    pub fn count(&mut self, call: &Call<'_>, table: &[u8]) {
         if call.answer.ends_with(" NOSET") {
             return self.other("recalls not compared: apply failed, but there was no set to apply");
         }
@@ -197,6 +206,9 @@ impl Tally {
         self.count_lengths(call);
         self.count_cut(call);
         self.count_others(call);
+        if let Some(bounds) = &mut self.bounds {
+            bounds.count(call, table);
+        }
     }
 
     /// Adds and stores by the length of the bytes that they bring.
@@ -257,11 +269,15 @@ impl Tally {
         let met =
             |(letter, answer): &(&'static str, &str)| *self.answers.get(&(*letter, answer.to_string())).unwrap_or(&0);
         let few = ANSWERS.iter().filter(|answer| met(answer) < wanted);
-        let answers = few.map(|answer| format!("{} {}: {}", answer.0, answer.1, met(answer)));
+        few.map(|answer| format!("{} {}: {}", answer.0, answer.1, met(answer))).collect()
+    }
+
+    /// The numbers about 253 and 255 that were met less often than wanted.
+    pub fn missing_cut(&self, wanted: u64) -> Vec<String> {
         let cut = CUT.iter().flat_map(|&(_, _, what)| ABOUT.map(move |number| (what, number)));
         let met = |number: &(&'static str, u64)| *self.cut.get(number).unwrap_or(&0);
         let few = cut.filter(|number| met(number) < wanted);
-        answers.chain(few.map(|number| format!("{} {}: {}", number.0, number.1, met(&number)))).collect()
+        few.map(|number| format!("{} {}: {}", number.0, number.1, met(&number))).collect()
     }
 
     pub fn print(&self) {
@@ -287,6 +303,9 @@ impl Tally {
         println!("further counts");
         for (what, count) in &self.others {
             println!("  {what:<68} {count:>9}");
+        }
+        if let Some(bounds) = &self.bounds {
+            bounds.print();
         }
     }
 }

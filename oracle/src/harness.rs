@@ -56,6 +56,16 @@ fn write_answer(out: &mut impl Write, letter: &str, answer: &Answer, table: &dyn
     writeln!(out)
 }
 
+/// The table of a line `N size [modes]`, by the words behind its letter.
+fn made<'a>(mut words: impl Iterator<Item = &'a str>) -> Option<Box<dyn AnyTable>> {
+    let size = words.next()?.parse().ok()?;
+    let modes = words.next().map_or(Some(0), |word| word.parse().ok())?;
+    if words.next().is_some() {
+        return None;
+    }
+    table(size, modes)
+}
+
 /// Runs one line. A line that is not understood is answered by `?` and why.
 fn run_line(out: &mut impl Write, current: &mut Option<Box<dyn AnyTable>>, line: &str) -> std::io::Result<()> {
     let mut words = line.split_ascii_whitespace();
@@ -63,10 +73,10 @@ fn run_line(out: &mut impl Write, current: &mut Option<Box<dyn AnyTable>>, line:
         return Ok(());
     };
     if letter == "N" {
-        *current = words.next().and_then(|size| size.parse().ok()).and_then(table);
+        *current = made(words);
         return match current {
             Some(_) => writeln!(out, "{}", line.trim()),
-            None => writeln!(out, "? size not built in: {line}"),
+            None => writeln!(out, "? no size that is built in, or no modes: {line}"),
         };
     }
     match (current, script::read(line)) {

@@ -13,6 +13,7 @@ use crate::hosts::{Clusters, Ctx, Groups};
 use crate::persist::Kv;
 use crate::probe::{Dump, Entry, Probe};
 use crate::script::{Add, Address, Call, Copy, Override, Recall};
+use crate::share;
 use crate::sink::{self, Sink};
 use crate::tlv::{TLVBuilder, TLVElement, TLVTag, TLVWrite, TLVWriteParent};
 
@@ -37,6 +38,8 @@ struct Table<const N: usize> {
     kv: Kv,
     notified: Cell<u32>,
     saved: RefCell<Vec<u8>>,
+    /// Whether the table is in share mode.
+    shared: bool,
 }
 
 /// What a handler left: its result, what the response was told, the bytes written, and whether a
@@ -384,7 +387,7 @@ impl<const N: usize> Table<N> {
     /// Startup with a saved image. Number 10 is not the Rust's: it is decided here, on what the Rust made of the image in
     /// a table of its own.
     fn load(&self, image: &[u8]) -> Answer {
-        let other = new_table::<N>();
+        let other = new_table::<N>(false);
         if other.start_with(image).is_err() {
             return with_status("F9");
         }
@@ -403,6 +406,24 @@ impl<const N: usize> Table<N> {
         let clusters = Clusters::default();
         let handler = ScenesHandler::new(Dataver::new(0), &groups, &self.state, &clusters);
         handler.lifecycle(self.ctx(0, 0), LifecycleOp::Startup)
+    }
+
+    /// The same entries, records and version in a table of its own, not in share mode.
+    fn copied(&self) -> Box<Self> {
+        let Dump { entries, records, version } = self.state.dump();
+        let other = new_table::<N>(false);
+        assert!(entries.iter().all(|e| other.state.push_entry(e)) && records.iter().all(|r| other.state.push_record(r)));
+        other.state.set_version(version);
+        other
+    }
+
+    /// The answer to a call that only the share refuses. This table's Rust is not given it. That nothing else refuses it is
+    /// asserted: on a copy of the table the Rust takes the new scene.
+    fn refused_by_share(&self, call: &Call) -> Answer {
+        let other = self.copied();
+        let taken = other.call(call);
+        assert_eq!((taken.status.as_str(), other.counts().0), ("00", self.counts().0 + 1), "not refused by the share alone");
+        Answer { marks: vec!["SHARE".into()], ..with_status("89") }
     }
 
     fn dump(&self) -> Answer {
@@ -518,6 +539,9 @@ impl<const N: usize> AnyTable for Table<N> {
     }
 
     fn run(&self, call: &Call) -> Answer {
+        if self.shared && share::alone_refuses(call, N, &self.state) {
+            return self.refused_by_share(call);
+        }
         self.kv.writes.set(0);
         self.notified.set(0);
         let mut answer = self.call(call);
@@ -535,21 +559,22 @@ impl<const N: usize> AnyTable for Table<N> {
     }
 }
 
-fn new_table<const N: usize>() -> Box<Table<N>> {
+fn new_table<const N: usize>(shared: bool) -> Box<Table<N>> {
     let (notified, saved) = (Cell::new(0), RefCell::default());
-    Box::new(Table { state: ScenesState::new(), kv: Kv::default(), notified, saved })
+    Box::new(Table { state: ScenesState::new(), kv: Kv::default(), notified, saved, shared })
 }
 
-fn make<const N: usize>() -> Box<dyn AnyTable> {
-    new_table::<N>()
+fn make<const N: usize>(shared: bool) -> Box<dyn AnyTable> {
+    new_table::<N>(shared)
 }
 
 macro_rules! sizes {
     ($($size:literal)*) => {
         /// An empty table, if its size is among those that are compiled.
-        pub fn table(size: u64) -> Option<Box<dyn AnyTable>> {
+        pub fn table(size: u64, modes: u8) -> Option<Box<dyn AnyTable>> {
+            let shared = share::is_share_mode(modes);
             match size {
-                $( $size => Some(make::<$size>()), )*
+                $( $size => Some(make::<$size>(shared)), )*
                 _ => None,
             }
         }
