@@ -310,6 +310,89 @@ static void adds_by_raw_fields(void) {
     EXPECT(scenes_table_remove_fabric(&table, 0x12).save && scenes_table_remove(&table, second, YES).save && table.state.entries == 0);
 }
 
+/* Five places, of which a fabric's share is two. */
+enum { FIVE = 5 };
+
+static uint64_t five_keys[FIVE], five_records[FIVE];
+static uint32_t five_times[FIVE];
+static uint8_t five_fields[SCENES_STRIDE * FIVE];
+
+#define LENT_FIVE five_keys, FIVE, five_times, FIVE, five_fields, sizeof five_fields, five_records, FIVE
+
+static struct scenes_key scene_of(uint8_t fabric, uint8_t scene) {
+    struct scenes_key key = {fabric, 0x3456, 0x789A, scene};
+    return key;
+}
+
+/* An add and a store by the calls themselves, which keep the head: their statuses. */
+static uint8_t added_to(struct scenes_state *state, uint8_t fabric, uint8_t scene) {
+    static const uint8_t pairs[] = {SCENES_PAIR_SCENABLE}, ext[] = {9};
+    struct scenes_outcome added = scenes_add(*state, LENT_FIVE, scene_of(fabric, scene), 7, YES, pairs, 1, ext, 1);
+    *state = added.state;
+    return added.status;
+}
+
+static uint8_t stored_in(struct scenes_state *state, uint8_t fabric, uint8_t scene) {
+    static const uint8_t captured[] = {9};
+    struct scenes_outcome stored = scenes_store(*state, LENT_FIVE, scene_of(fabric, scene), YES, captured, 1);
+    *state = stored.state;
+    return stored.status;
+}
+
+/* The calls on a head: all its modes come back, and bit 0 alone says whether a third scene is refused. */
+static void modes_of_a_head(uint8_t modes) {
+    const uint8_t third = modes % 2 == 1 ? SCENES_INSUFFICIENT_SPACE : SCENES_SUCCESS;
+    struct scenes_state state = scenes_new_with_modes(FIVE, modes);
+    EXPECT(state.size == FIVE && state.entries == 0 && state.recorded == 0 && state.dataver == 0 && state.modes == modes);
+    EXPECT(added_to(&state, 0x12, 1) == SCENES_SUCCESS && stored_in(&state, 0x12, 2) == SCENES_SUCCESS);
+    EXPECT(state.entries == 2 && state.recorded == 1 && state.modes == modes);
+    EXPECT(added_to(&state, 0x12, 3) == third && state.modes == modes && stored_in(&state, 0x12, 3) == third);
+    EXPECT(added_to(&state, 0x12, 2) == SCENES_SUCCESS && stored_in(&state, 0x12, 1) == SCENES_SUCCESS);
+    EXPECT(added_to(&state, 0x34, 3) == SCENES_SUCCESS && stored_in(&state, 0x34, 4) == SCENES_SUCCESS);
+    EXPECT(state.entries == (third == SCENES_SUCCESS ? 5 : 4) && state.recorded == 2 && state.modes == modes);
+    uint8_t image[SCENES_IMAGE_MAX(FIVE)];
+    struct scenes_image_saved saved = scenes_save_image(state, LENT_FIVE, image, sizeof image);
+    EXPECT(saved.status == SCENES_SUCCESS && scenes_state_equal(saved.state, state));
+    struct scenes_state loaded = scenes_load_image(scenes_new_with_modes(FIVE, modes), LENT_FIVE, image, saved.len).state;
+    EXPECT(loaded.entries == state.entries && loaded.recorded == state.recorded && loaded.dataver == 1 && loaded.modes == modes);
+    loaded = state;
+    loaded.modes = (uint8_t)(modes ^ 0x80);
+    EXPECT(scenes_state_equal(state, state) && !scenes_state_equal(state, loaded));
+}
+
+/* The same over a table: two scenes of each of two fabrics fit, and the last place is a third one's. */
+static void share_mode(void) {
+    struct scenes_table five = scenes_table_new_with_modes(FIVE, SCENES_MODE_SHARE, five_keys, five_times, five_fields, five_records);
+    EXPECT(scenes_state_equal(five.state, scenes_new_with_modes(FIVE, SCENES_MODE_SHARE)) && five.places == FIVE);
+    for (uint8_t fabric = 1; fabric <= 2; fabric++) {
+        EXPECT(scenes_table_add(&five, scene_of(fabric, 1), 7, YES, NULL, 0, NULL, 0).save);
+        EXPECT(scenes_table_store(&five, scene_of(fabric, 2), YES, NULL, 0).save);
+        EXPECT(scenes_table_add(&five, scene_of(fabric, 3), 7, YES, NULL, 0, NULL, 0).status == SCENES_INSUFFICIENT_SPACE);
+        EXPECT(scenes_table_add_read(&five, scene_of(fabric, 3), 7, YES, NULL, 0, NULL, 0).status == SCENES_INSUFFICIENT_SPACE);
+        EXPECT(scenes_table_store(&five, scene_of(fabric, 3), YES, NULL, 0).status == SCENES_INSUFFICIENT_SPACE);
+        EXPECT(scenes_table_add(&five, scene_of(fabric, 2), 8, YES, NULL, 0, NULL, 0).save);
+        EXPECT(scenes_table_store(&five, scene_of(fabric, 1), YES, NULL, 0).save);
+        EXPECT(five.state.entries == (size_t)2 * fabric && five.state.modes == SCENES_MODE_SHARE);
+    }
+    /* an image has no modes: what is loaded goes by those of the table */
+    uint8_t image[SCENES_IMAGE_MAX(FIVE)];
+    struct scenes_image_saved saved = scenes_table_save_image(&five, image, sizeof image);
+    EXPECT(scenes_table_load_image(&five, image, saved.len).status == SCENES_SUCCESS && five.state.modes == SCENES_MODE_SHARE);
+    EXPECT(scenes_table_store(&five, scene_of(1, 3), YES, NULL, 0).status == SCENES_INSUFFICIENT_SPACE);
+    EXPECT(scenes_table_store(&five, scene_of(3, 3), YES, NULL, 0).save && five.state.entries == FIVE);
+    EXPECT(scenes_table_factory_reset(&five).status == SCENES_SUCCESS && five.state.modes == SCENES_MODE_SHARE);
+    struct scenes_table plain = scenes_table_new(FIVE, five_keys, five_times, five_fields, five_records);
+    EXPECT(scenes_table_load_image(&plain, image, saved.len).status == SCENES_SUCCESS && plain.state.modes == 0);
+    EXPECT(scenes_table_store(&plain, scene_of(1, 3), YES, NULL, 0).save && plain.state.entries == FIVE);
+}
+
+static void modes(void) {
+    static const uint8_t some[] = {0, SCENES_MODE_SHARE, 0xA5, 0xFE, 0xFF};
+    for (size_t i = 0; i < sizeof some; i++)
+        modes_of_a_head(some[i]);
+    share_mode();
+}
+
 static void lifecycle(void) {
     struct scenes_state before = table.state;
     EXPECT(scenes_table_fail_safe_commit(&table).status == SCENES_SUCCESS && scenes_table_fail_safe_expiry(&table).status == SCENES_SUCCESS);
@@ -347,6 +430,7 @@ int main(void) {
     EXPECT(scenes_version() == SCENES_VERSION);
     table = scenes_table_new(N, keys, times, fields, records);
     EXPECT(table.state.size == N && table.state.entries == 0 && table.state.recorded == 0 && table.state.dataver == 0);
+    EXPECT(table.state.modes == 0 && scenes_state_equal(table.state, scenes_new(N)));
     writes();
     scene_reads();
     list_and_info();
@@ -357,6 +441,7 @@ int main(void) {
     items();
     pair_lists();
     adds_by_raw_fields();
+    modes();
     lifecycle();
     words();
     texts();

@@ -54,7 +54,7 @@
 
 /* What this header was written for: it steps whenever a struct, an answer or a call of the header changes. A host that may meet another
  * library compares it with scenes_version() before any other call. Version 1 had none to ask for. */
-#define SCENES_VERSION 6
+#define SCENES_VERSION 7
 
 /* An answer that is dropped is warned of, since the head is in it. Pointers are not null, and no two of a call's arrays overlap. */
 #if (defined(__cplusplus) && __cplusplus >= 201703L) || (defined(__STDC_VERSION__) && __STDC_VERSION__ >= 202311L)
@@ -90,7 +90,7 @@ extern "C" {
 #define SCENES_SUCCESS 0
 #define SCENES_INVALID_COMMAND 0x85    /* not a member of the group; an attribute that is not scenable */
 #define SCENES_CONSTRAINT_ERROR 0x87   /* scene 0 or 255; a time above 60,000,000 */
-#define SCENES_INSUFFICIENT_SPACE 0x89 /* fields over 128 bytes; no place; a copy with nothing remaining */
+#define SCENES_INSUFFICIENT_SPACE 0x89 /* fields over 128 bytes; no place; a copy, in share mode any new scene, with nothing remaining */
 #define SCENES_NOT_FOUND 0x8B          /* no such scene */
 /* .. or a fault. */
 #define SCENES_NO_FABRIC 1         /* fabric 0 */
@@ -113,6 +113,10 @@ extern "C" {
 #define SCENES_IMAGE_MAX(n) ((size_t)171 * (n) + 8) /* no image of a table of n places has more bytes */
 #define SCENES_PAIRS_MAX(n) ((size_t)(n) / 5)       /* no n field bytes hold more pairs: each takes five bytes at least */
 #define SCENES_NO_POSITION 1024   /* the position that a refused view or lookup answers: no table has an entry there */
+
+/* The modes of a table. Bit 0 is the share mode: an add or a store of a new scene answers 0x89 when the fabric's remaining capacity is 0, as a
+ * copy always does. One that overwrites a scene is not refused for it. The other bits mean nothing. */
+#define SCENES_MODE_SHARE 1
 
 /* Membership: whether the fabric's endpoint is in the group. Group 0 needs no answer. Numbers above 1 all say that the host could not tell. */
 #define SCENES_MEMBER_NO 0
@@ -156,12 +160,14 @@ extern "C" {
 #define SCENES_FABRIC_SHIFT 40
 #define SCENES_RECORD_VALID ((uint64_t)1 << 48)
 
-/* The head of a table: N, how many scenes and records it has, and the data version of FabricSceneInfo. */
+/* The head of a table: N, how many scenes and records it has, the data version of FabricSceneInfo, and the modes. The modes are fixed when the
+ * table is made: every call hands them back as they came, all eight bits, and an image does not hold them. */
 struct scenes_state {
     size_t size;
     size_t entries;
     size_t recorded;
     uint32_t dataver;
+    uint8_t modes;
 };
 
 /* A scene, as a command names it. */
@@ -281,7 +287,8 @@ struct scenes_table {
 
 /* The layouts that the library was compiled for. host/rust tests the same numbers. */
 SCENES_ASSERT(truth, sizeof(bool) == 1);
-SCENES_ASSERT(state, sizeof(struct scenes_state) == 32 && offsetof(struct scenes_state, dataver) == 24);
+SCENES_ASSERT(state, sizeof(struct scenes_state) == 32 && offsetof(struct scenes_state, dataver) == 24 &&
+                         offsetof(struct scenes_state, modes) == 28);
 SCENES_ASSERT(key, sizeof(struct scenes_key) == 8 && offsetof(struct scenes_key, scene) == 6);
 SCENES_ASSERT(group_key, sizeof(struct scenes_group_key) == 6 && offsetof(struct scenes_group_key, group) == 4);
 SCENES_ASSERT(group_scene, sizeof(struct scenes_group_scene) == 4 && offsetof(struct scenes_group_scene, scene) == 2);
@@ -321,8 +328,11 @@ SCENES_ASSERT(pairs_read, sizeof(struct scenes_pairs_read) == 16 && offsetof(str
 /* The version of the library: SCENES_VERSION, if the header is its own. */
 SCENES_KEEP uint32_t scenes_version(void);
 
-/* The head of an empty table of N places, at data version 0. A table of more than 1,024 is not sound. */
+/* The head of an empty table of N places without modes, at data version 0. A table of more than 1,024 is not sound. */
 SCENES_KEEP struct scenes_state scenes_new(size_t size);
+
+/* The same with modes, SCENES_MODE_SHARE for the share mode. A table that is loaded from its image is made with its modes again. */
+SCENES_KEEP struct scenes_state scenes_new_with_modes(size_t size, uint8_t modes);
 
 /* Whether the table is sound: if not, the other calls answer 6. A host asks it of a table that it has loaded. */
 SCENES_KEEP bool scenes_is_sound(SCENES_READ) SCENES_NONNULL;
@@ -465,7 +475,7 @@ static inline const char *scenes_status_text(uint8_t status) {
 
 /* Whether two heads are the same. */
 static inline bool scenes_state_equal(struct scenes_state a, struct scenes_state b) {
-    return a.size == b.size && a.entries == b.entries && a.recorded == b.recorded && a.dataver == b.dataver;
+    return a.size == b.size && a.entries == b.entries && a.recorded == b.recorded && a.dataver == b.dataver && a.modes == b.modes;
 }
 
 /* Bytes that may be NULL where there are none. */
@@ -502,7 +512,8 @@ static inline struct scenes_outcome scenes_table_keep(struct scenes_table *table
     return outcome;
 }
 
-/* An empty table in the host's arrays. For a saved one load its image by scenes_table_load_image, of length 0 if there is none yet. */
+/* An empty table in the host's arrays, without modes. For a saved one load its image by scenes_table_load_image: of length 0, if there is
+ * none yet. */
 SCENES_KEEP SCENES_NONNULL static inline struct scenes_table scenes_table_new(size_t places, uint64_t *keys, uint32_t *times,
                                                                               uint8_t *fields, uint64_t *records) {
     struct scenes_table table;
@@ -512,6 +523,15 @@ SCENES_KEEP SCENES_NONNULL static inline struct scenes_table scenes_table_new(si
     table.times = times;
     table.fields = fields;
     table.records = records;
+    return table;
+}
+
+/* The same with modes. */
+SCENES_KEEP SCENES_NONNULL static inline struct scenes_table scenes_table_new_with_modes(size_t places, uint8_t modes, uint64_t *keys,
+                                                                                         uint32_t *times, uint8_t *fields,
+                                                                                         uint64_t *records) {
+    struct scenes_table table = scenes_table_new(places, keys, times, fields, records);
+    table.state = scenes_new_with_modes(places, modes);
     return table;
 }
 

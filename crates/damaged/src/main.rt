@@ -20,9 +20,12 @@ struct Shown {
     changed: bool,
 }
 
+// The share mode, and bits that mean nothing: every call hands them back.
+const MODES: u8 = 0xA5;
+
 // N 3 with two entries and two records, unless the head is what is damaged.
 fn head(row: u8) -> ScenesState {
-    let mut state = ScenesState::new(3);
+    let mut state = ScenesState::with_modes(3, MODES);
     state.entries = 2;
     state.recorded = 2;
     state.dataver = 7;
@@ -152,6 +155,7 @@ fn same_head(a: ScenesState, b: ScenesState) -> bool {
         & (a.entries == b.entries)
         & (a.recorded == b.recorded)
         & (a.dataver == b.dataver)
+        & (a.modes == b.modes)
 }
 
 fn kept(row: u8, keys: &[u64], times: &[u32], fields: &[u8], records: &[u64]) -> bool {

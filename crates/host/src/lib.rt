@@ -17,7 +17,7 @@ use words::GroupKey;
 use words::SceneKey;
 use words::Slot;
 ghost use mathlib.Core.Path.{_≡_};
-ghost use Rattle.state.specs.Table.{tableOf, newState};
+ghost use Rattle.state.specs.Table.{tableOf, newState, newStateWith};
 ghost use Rattle.state.specs.Sound.{sound};
 ghost use Rattle.state.specs.Answer.{resultOf};
 ghost use Rattle.commands.specs.Commands.{addScene, storeScene, removeScene, removeAllScenes, recallScene};
@@ -41,7 +41,7 @@ pub struct FieldBytes {
 pub struct Interface;
 
 impl Interface {
-    pub const VERSION: u32 = 6;
+    pub const VERSION: u32 = 7;
 }
 
 // Whether the host applied a recalled scene: 1 is yes, any other number is no.
@@ -82,12 +82,20 @@ pub extern "C" fn scenes_version() -> u32
     Interface::VERSION
 }
 
-// The head of an empty table of `size` places, at data version 0.
+// The head of an empty table of `size` places without modes, at data version 0.
 #[no_mangle]
 pub extern "C" fn scenes_new(size: usize) -> ScenesState
     ensures { λ r. ⌜ r ≡ newState size ⌝ }
 {
     ScenesState::new(size)
+}
+
+// The same, with modes, which every call keeps: bit 0 is the share mode, the other bits mean nothing.
+#[no_mangle]
+pub extern "C" fn scenes_new_with_modes(size: usize, modes: u8) -> ScenesState
+    ensures { λ r. ⌜ r ≡ newStateWith size modes ⌝ }
+{
+    ScenesState::with_modes(size, modes)
 }
 
 // Whether the table is sound. Where it is not, the calls that answer a status answer 6.

@@ -50,7 +50,7 @@ valid key = key + 2 ^ 48
 -- the table that is loaded into: N 2, with an entry and a valid record, at a version
 abbrev pub tableAt : ℕ → Table
 tableAt version =
-    tableOf (record { size = 2; entries = 1; recorded = 1; dataver = version })
+    tableOf (record { size = 2; entries = 1; recorded = 1; dataver = version; modes = 0 })
     (keyOf 2 3 4 9 ∷ 0 ∷ [])
     (5 ∷ 0 ∷ [])
     (1 ∷ 0xCC ∷ replicate 256 0)
@@ -59,7 +59,7 @@ tableAt version =
 -- not sound: three entries, N 2
 abbrev pub unsoundTable : Table
 unsoundTable =
-    tableOf (record { size = 2; entries = 3; recorded = 0; dataver = 7 }) (replicate 3 0) (replicate 3 0) (replicate 387 0) (replicate 3 0)
+    tableOf (record { size = 2; entries = 3; recorded = 0; dataver = 7; modes = 0 }) (replicate 3 0) (replicate 3 0) (replicate 387 0) (replicate 3 0)
 
 -- fabric 1, endpoint 1, group 300, scene 5
 abbrev pub sceneFive : ℕ
@@ -68,7 +68,7 @@ sceneFive = keyOf 1 1 300 5
 -- N 1, with that scene, which is its fabric's current one
 abbrev pub oneScene : Table
 oneScene =
-    tableOf (record { size = 1; entries = 1; recorded = 1; dataver = 0 })
+    tableOf (record { size = 1; entries = 1; recorded = 1; dataver = 0; modes = 0 })
     (sceneFive ∷ [])
     (70000 ∷ [])
     (2 ∷ 0xAA ∷ 0xBB ∷ replicate 126 0)

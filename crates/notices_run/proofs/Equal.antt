@@ -25,7 +25,7 @@ beq-true false true h = absurd (false≢true h)
 
 -- ---- two answers
 module _ (a b : Outcome) where
-  -- the first two, three, four, five and all six tests
+  -- the first two, three, four, five, six and all seven tests
   abbrev two : Bool
   two = eqb (a .status) (b .status) && Bool·beq (a .save) (b .save)
 
@@ -38,12 +38,16 @@ module _ (a b : Outcome) where
   abbrev five : Bool
   five = four && eqb (a .state .recorded) (b .state .recorded)
 
+  abbrev six : Bool
+  six = five && eqb (a .state .dataver) (b .state .dataver)
+
   abbrev pub outcomes : Bool
-  outcomes = five && eqb (a .state .dataver) (b .state .dataver)
+  outcomes = six && eqb (a .state .modes) (b .state .modes)
 
   pub outcomes-true : outcomes ≡ true → a ≡ b
   outcomes-true h =
-      let h5 : five ≡ true = and-left five _ h in
+      let h6 : six ≡ true = and-left six _ h in
+      let h5 : five ≡ true = and-left five _ h6 in
       let h4 : four ≡ true = and-left four _ h5 in
       let h3 : three ≡ true = and-left three _ h4 in
       let h2 : two ≡ true = and-left two _ h3 in
@@ -52,15 +56,24 @@ module _ (a b : Outcome) where
       let size : a .state .size ≡ b .state .size = eqb-true _ _ (and-right two _ h3) in
       let entries : a .state .entries ≡ b .state .entries = eqb-true _ _ (and-right three _ h4) in
       let recorded : a .state .recorded ≡ b .state .recorded = eqb-true _ _ (and-right four _ h5) in
-      let dataver : a .state .dataver ≡ b .state .dataver = eqb-true _ _ (and-right five _ h) in
-      λ i. record { status = status i; save = save i; state = record { size = size i; entries = entries i; recorded = recorded i; dataver = dataver i } }
+      let dataver : a .state .dataver ≡ b .state .dataver = eqb-true _ _ (and-right five _ h6) in
+      let modes : a .state .modes ≡ b .state .modes = eqb-true _ _ (and-right six _ h) in
+      λ i. record {
+        status = status i;
+        save = save i;
+        state = record { size = size i; entries = entries i; recorded = recorded i; dataver = dataver i; modes = modes i };
+      }
 
   pub outcomes-same : a ≡ b → outcomes ≡ true
   outcomes-same e =
       let field : (f : Outcome → ℕ) → eqb (f a) (f b) ≡ true = λ f. eq-eqb (f a) (f b) (ap f e) in
       let save : Bool·beq (a .save) (b .save) ≡ true = subst (λ (o : Outcome). Bool·beq (a .save) (o .save) ≡ true) e (beq-same (a .save)) in
-      and-intro _ _ (and-intro _ _ (and-intro _ _ (and-intro _ _ (and-intro _ _ (field (λ o. o .status)) save) (field (λ o. o .state .size))) (field (λ o. o .state .entries)))
-      (field (λ o. o .state .recorded))) (field (λ o. o .state .dataver))
+      let s2 : two ≡ true = and-intro _ _ (field (λ o. o .status)) save in
+      let s3 : three ≡ true = and-intro _ _ s2 (field (λ o. o .state .size)) in
+      let s4 : four ≡ true = and-intro _ _ s3 (field (λ o. o .state .entries)) in
+      let s5 : five ≡ true = and-intro _ _ s4 (field (λ o. o .state .recorded)) in
+      let s6 : six ≡ true = and-intro _ _ s5 (field (λ o. o .state .dataver)) in
+      and-intro _ _ s6 (field (λ o. o .state .modes))
 
 -- ---- four words
 elements : (l : List ℕ) → length l ≡ 4 → l ≡ getD l 0 0 ∷ getD l 1 0 ∷ getD l 2 0 ∷ getD l 3 0 ∷ []

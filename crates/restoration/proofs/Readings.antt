@@ -31,7 +31,11 @@ use Rattle.restoration.specs.Restoration.{RestoresAny}
 -- scene 5 of fabric 1 twice, in a table of two places
 abbrev twice : Table
 twice =
-    tableOf (record { size = 2; entries = 2; recorded = 0; dataver = 0 }) (keyOf 1 1 0 5 ∷ keyOf 1 1 0 5 ∷ []) (0 ∷ 0 ∷ []) (replicate 258 0) (0 ∷ 0 ∷ [])
+    tableOf (record { size = 2; entries = 2; recorded = 0; dataver = 0; modes = 0 })
+    (keyOf 1 1 0 5 ∷ keyOf 1 1 0 5 ∷ [])
+    (0 ∷ 0 ∷ [])
+    (replicate 258 0)
+    (0 ∷ 0 ∷ [])
 
 twice-sound : sound twice ≡ true
 unfolding sound inBounds allOf keysSound lengthsSound recordsSound everyBelow

@@ -31,7 +31,7 @@ pub enum Error {
     InvalidCommand = 0x85,
     /// Scene 0 or 255; a time above 60,000,000.
     ConstraintError = 0x87,
-    /// Fields over 128 bytes; no place; a copy with nothing remaining.
+    /// Fields over 128 bytes; no place; a copy, in share mode any new scene, with nothing remaining.
     InsufficientSpace = 0x89,
     /// No such scene.
     NotFound = 0x8B,

@@ -14,6 +14,7 @@ pub(crate) struct State {
     pub entries: usize,
     pub recorded: usize,
     pub dataver: u32,
+    pub modes: u8,
 }
 
 // A truth value comes as a byte, 0 or 1. Reading it as a number asks nothing of it.
@@ -118,6 +119,7 @@ pub(crate) struct LentMut<'a> {
 extern "C" {
     fn scenes_version() -> u32;
     fn scenes_new(size: usize) -> State;
+    fn scenes_new_with_modes(size: usize, modes: u8) -> State;
     fn scenes_next_item(bytes: *const u8, bytes_len: usize, cursor: Cursor) -> FieldItem;
     fn scenes_list_pairs(bytes: *const u8, bytes_len: usize, pairs: *mut u64, pairs_len: usize) -> PairsRead;
 }
@@ -128,10 +130,16 @@ pub(crate) fn version() -> u32 {
     unsafe { scenes_version() }
 }
 
-/// The head of an empty table.
+/// The head of an empty table without modes.
 pub(crate) fn new(size: usize) -> State {
     // SAFETY: a number goes in, and any bytes are a head.
     unsafe { scenes_new(size) }
+}
+
+/// The head of an empty table with modes.
+pub(crate) fn new_with_modes(size: usize, modes: u8) -> State {
+    // SAFETY: two numbers go in, and any bytes are a head.
+    unsafe { scenes_new_with_modes(size, modes) }
 }
 
 /// The item of field bytes at a cursor.

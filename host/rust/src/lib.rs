@@ -22,6 +22,8 @@
 //! A host that has raw field bytes and no list of their pairs adds by [`Scenes::add_read`], which reads the pairs out of them and asks
 //! about each; [`field_items`], [`field_pairs`] and [`list_pairs`] read them without a table.
 //!
+//! A table in share mode, in which a fabric's share limits every new scene, is made by [`Scenes::with_modes`].
+//!
 //! What the proofs do not reach is the boundary itself: that the declarations in this crate are those of the library. Tests hold the
 //! layouts and every argument.
 #![cfg_attr(not(test), no_std)]
@@ -37,5 +39,5 @@ mod tests;
 
 pub use answers::{Done, Error, InfoRow, Scene, SceneList};
 pub use fields::{field_items, field_pairs, list_pairs, pair_of_word, pairs_max, FieldItem, FieldItems, FieldPairs};
-pub use requests::{pair, Applied, CopyRequest, GroupKey, GroupScene, Membership, SceneKey, Transition};
+pub use requests::{modes, pair, Applied, CopyRequest, GroupKey, GroupScene, Membership, SceneKey, Transition};
 pub use table::{image_max, library_version, Memory, Scenes, MAX_FIELDS, MAX_REMAINING, MAX_SCENES, MAX_TIME, STRIDE, VERSION};

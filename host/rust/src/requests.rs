@@ -124,3 +124,10 @@ pub mod pair {
     /// The endpoint has no such cluster.
     pub const CLUSTER_UNKNOWN: u8 = 2;
 }
+
+/// The modes of a table, which are fixed when it is made. The bits that have no name here mean nothing, and are kept too.
+pub mod modes {
+    /// The share mode: an add or a store of a new scene is refused by 0x89 when the fabric's remaining capacity is 0, as a copy always is.
+    /// One that overwrites a scene is not refused for it.
+    pub const SHARE: u8 = 1;
+}

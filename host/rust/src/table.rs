@@ -5,7 +5,7 @@ use crate::fields::{field_pairs, pairs_max};
 use crate::requests::{pair, Applied, CopyRequest, GroupKey, Membership, SceneKey, Transition};
 
 /// The version of the interface that this crate is for. It steps whenever a struct, an answer or a call of the library changes.
-pub const VERSION: u32 = 6;
+pub const VERSION: u32 = 7;
 
 /// The version of the library that was linked: [`VERSION`], unless the crate was linked with another's.
 ///
@@ -50,6 +50,8 @@ pub struct Memory<const N: usize> {
     pub recorded: usize,
     /// The data version of FabricSceneInfo.
     pub dataver: u32,
+    /// The table's [`modes`](crate::modes).
+    pub modes: u8,
     /// For each scene its key word: fabric × 2^40 + endpoint × 2^24 + group × 2^8 + scene.
     pub keys: [u64; N],
     /// For each scene its transition time.
@@ -79,20 +81,48 @@ impl<const N: usize> Default for Scenes<N> {
 impl<const N: usize> Scenes<N> {
     const FITS: () = assert!(N <= MAX_SCENES, "a table has at most 1,024 scenes");
 
-    /// An empty table, at data version 0.
+    /// An empty table without modes, at data version 0.
     ///
     /// ```
     /// let table = scenes::Scenes::<16>::new();
-    /// assert_eq!((table.entries(), table.data_version()), (0, 0));
+    /// assert_eq!((table.entries(), table.data_version(), table.modes()), (0, 0, 0));
     /// ```
     pub fn new() -> Self {
+        Self::empty(ffi::new(N))
+    }
+
+    /// An empty table with [`modes`](crate::modes), at data version 0. They are fixed: every call keeps them. An image does not hold them:
+    /// a table that is loaded from one is made with its modes again.
+    ///
+    /// ```
+    /// use scenes::{modes, Error, Membership, SceneKey, Scenes};
+    ///
+    /// // Of five places a fabric's share is two.
+    /// let mut table = Scenes::<5>::with_modes(modes::SHARE);
+    /// let key = |fabric, scene| SceneKey { fabric, endpoint: 1, group: 0, scene };
+    /// table.add(key(1, 1), 1000, Membership::Yes, &[], b"\x18")?;
+    /// table.add(key(1, 2), 1000, Membership::Yes, &[], b"\x18")?;
+    /// assert_eq!(table.add(key(1, 3), 1000, Membership::Yes, &[], b"\x18"), Err(Error::InsufficientSpace));
+    ///
+    /// // One of the two is overwritten, and another fabric has a share of its own.
+    /// assert!(table.add(key(1, 2), 2000, Membership::Yes, &[], b"\x18")?.save);
+    /// assert!(table.add(key(2, 3), 1000, Membership::Yes, &[], b"\x18")?.save);
+    /// # Ok::<(), Error>(())
+    /// ```
+    pub fn with_modes(modes: u8) -> Self {
+        Self::empty(ffi::new_with_modes(N, modes))
+    }
+
+    // The table of a new head, with zeros in its memory.
+    fn empty(head: State) -> Self {
         let () = Self::FITS;
-        let State { entries, recorded, dataver, .. } = ffi::new(N);
-        let memory = Memory { entries, recorded, dataver, keys: [0; N], times: [0; N], fields: [[0; STRIDE]; N], records: [0; N] };
+        let State { entries, recorded, dataver, modes, .. } = head;
+        let memory =
+            Memory { entries, recorded, dataver, modes, keys: [0; N], times: [0; N], fields: [[0; STRIDE]; N], records: [0; N] };
         Scenes { memory }
     }
 
-    /// The table in memory that was copied. [`Error::Unsound`] if it is not that of a table.
+    /// The table in memory that was copied, with its modes. [`Error::Unsound`] if it is not that of a table.
     ///
     /// ```
     /// use scenes::{Error, Scenes};
@@ -179,6 +209,11 @@ impl<const N: usize> Scenes<N> {
     /// The data version of FabricSceneInfo.
     pub fn data_version(&self) -> u32 {
         self.memory.dataver
+    }
+
+    /// The table's [`modes`](crate::modes), with which it was made.
+    pub fn modes(&self) -> u8 {
+        self.memory.modes
     }
 
     /// Whether the table is sound: it is, since only the table's own calls write its memory.
@@ -504,8 +539,8 @@ impl<const N: usize> Scenes<N> {
     }
 
     pub(crate) fn state(&self) -> State {
-        let Memory { entries, recorded, dataver, .. } = self.memory;
-        State { size: N, entries, recorded, dataver }
+        let Memory { entries, recorded, dataver, modes, .. } = self.memory;
+        State { size: N, entries, recorded, dataver, modes }
     }
 
     pub(crate) fn lent(&self) -> Lent<'_> {
@@ -525,6 +560,7 @@ impl<const N: usize> Scenes<N> {
         self.memory.entries = outcome.state.entries;
         self.memory.recorded = outcome.state.recorded;
         self.memory.dataver = outcome.state.dataver;
+        self.memory.modes = outcome.state.modes;
         if outcome.status == 0 {
             Ok(Done { save: outcome.save != 0 })
         } else {

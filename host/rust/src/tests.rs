@@ -9,7 +9,7 @@ use core::mem::{offset_of, size_of};
 #[test]
 fn layouts_are_those_of_the_header() {
     assert_eq!((size_of::<State>(), offset_of!(State, size), offset_of!(State, entries)), (32, 0, 8));
-    assert_eq!((offset_of!(State, recorded), offset_of!(State, dataver)), (16, 24));
+    assert_eq!((offset_of!(State, recorded), offset_of!(State, dataver), offset_of!(State, modes)), (16, 24, 28));
     assert_eq!((size_of::<SceneKey>(), offset_of!(SceneKey, fabric), offset_of!(SceneKey, endpoint)), (8, 0, 2));
     assert_eq!((offset_of!(SceneKey, group), offset_of!(SceneKey, scene)), (4, 6));
     assert_eq!((size_of::<GroupKey>(), offset_of!(GroupKey, endpoint), offset_of!(GroupKey, group)), (6, 2, 4));
@@ -66,11 +66,28 @@ fn keys_and_times_arrive_whole() {
 fn the_head_comes_back_whole() {
     let mut table = two();
     table.memory.dataver = u32::MAX;
+    table.memory.modes = 0xA5;
     let read = ffi::view(table.state(), table.lent(), SceneKey { fabric: 9, endpoint: 9, group: 0, scene: 9 }, 1);
     assert_eq!((read.status, read.time, read.at, read.len), (0x8B, 0, MAX_SCENES, 0));
-    assert_eq!(read.state, State { size: 16, entries: 2, recorded: 1, dataver: u32::MAX });
+    assert_eq!(read.state, State { size: 16, entries: 2, recorded: 1, dataver: u32::MAX, modes: 0xA5 });
     assert!(table.factory_reset().is_ok());
-    assert_eq!(table.state(), State { size: 16, entries: 0, recorded: 0, dataver: 0 });
+    assert_eq!(table.state(), State { size: 16, entries: 0, recorded: 0, dataver: 0, modes: 0xA5 });
+}
+
+// Every byte is the head's modes as it was handed over, and bit 0 alone decides: three places give a fabric one.
+#[test]
+fn modes_arrive() {
+    let key = |scene| SceneKey { fabric: 0x12, endpoint: 0x3456, group: 0x789A, scene };
+    for modes in 0..=255 {
+        let mut table = Scenes::<3>::with_modes(modes);
+        assert_eq!(table.state(), State { size: 3, entries: 0, recorded: 0, dataver: 0, modes });
+        assert!(table.add(key(1), 0, Membership::Yes, &[], &[]).is_ok());
+        let second = table.add(key(2), 0, Membership::Yes, &[], &[]);
+        assert_eq!(second.map_err(Error::number), if modes % 2 == 0 { Ok(Done { save: true }) } else { Err(0x89) });
+        assert_eq!(table.modes(), modes);
+    }
+    assert_eq!(ffi::new_with_modes(usize::MAX, 0xA5), State { size: usize::MAX, entries: 0, recorded: 0, dataver: 0, modes: 0xA5 });
+    assert_eq!(ffi::new(3), ffi::new_with_modes(3, 0));
 }
 
 // The length that a view and a lookup hand over is that of the field bytes at their position.
@@ -115,7 +132,7 @@ fn every_number_means_something() {
     for applied in 0..=255 {
         let mut copy = two();
         let memory = &mut copy.memory;
-        let state = State { size: 16, entries: 2, recorded: 1, dataver: 1 };
+        let state = State { size: 16, entries: 2, recorded: 1, dataver: 1, modes: 0 };
         let lent = LentMut {
             keys: &mut memory.keys,
             times: &mut memory.times,
@@ -231,6 +248,7 @@ fn damaged() -> [Scenes<16>; 8] {
     ];
     damages.map(|damage| {
         let mut table = two();
+        table.memory.modes = 0xA5;
         damage(&mut table.memory);
         table
     })

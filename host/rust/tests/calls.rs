@@ -331,6 +331,79 @@ fn a_remaining_capacity_is_reported_up_to_253() {
     }
 }
 
+// Five places in share mode, with the two scenes of fabric 1 that are its share.
+fn shared() -> Scenes<5> {
+    let mut table = Scenes::with_modes(modes::SHARE);
+    assert_eq!(table.add(key(1, 1, 1), 1001, YES, &[], &[1]), SAVED);
+    assert_eq!(table.store(key(1, 1, 2), YES, &[2]), SAVED);
+    table
+}
+
+// A new scene above the share is refused however it comes, what is there is overwritten, and another fabric has its own share.
+#[test]
+fn a_share_limits_every_new_scene() {
+    let table = &mut shared();
+    refused(table, 0x89, |t| t.add(key(1, 1, 3), 0, YES, &[], &[]));
+    refused(table, 0x89, |t| t.add(key(1, 2, 1), 0, YES, &[], &[]));
+    refused(table, 0x89, |t| t.store(key(1, 1, 3), YES, &[]));
+    refused(table, 0x89, |t| t.add_answered(key(1, 1, 3), 0, YES, &[1, 1], TWO_PAIRS));
+    refused(table, 0x89, |t| t.add_read(key(1, 1, 3), 0, YES, TWO_PAIRS, |_, _| pair::SCENABLE));
+    refused(table, 0x89, |t| t.copy(copy(0, (1, 1), (2, 1)), YES, YES));
+    // Whatever is tested before a place is found keeps its number.
+    refused(table, 0x85, |t| t.add(key(1, 1, 3), 0, YES, &[0], &[]));
+    refused(table, 3, |t| t.store(key(1, 1, 3), YES, &[0; 128]));
+    assert_eq!(table.add(key(1, 1, 1), 2001, YES, &[], &[9]), SAVED);
+    assert_eq!(table.store(key(1, 1, 2), YES, &[8]), SAVED);
+    assert_eq!(table.add_answered(key(1, 1, 1), 2002, YES, &[1, 1], TWO_PAIRS), SAVED);
+    assert_eq!((table.entries(), table.view(key(1, 1, 1), YES).map(|scene| scene.time)), (2, Ok(2002)));
+    assert_eq!(table.add(key(2, 1, 3), 0, YES, &[], &[]), SAVED);
+    assert_eq!(table.store(key(3, 1, 3), YES, &[]), SAVED);
+    assert_eq!(table.get_membership(group(3, 1), YES, &mut [0]).map(|list| list.remaining), Ok(1));
+    assert_eq!(table.remove(key(1, 1, 1), YES), SAVED);
+    assert_eq!(table.add(key(1, 1, 3), 0, YES, &[], &[]), SAVED);
+    // The last place is free, and within the share of fabric 3 alone.
+    refused(table, 0x89, |t| t.add(key(1, 1, 4), 0, YES, &[], &[]));
+    assert_eq!(table.store(key(3, 1, 4), YES, &[]), SAVED);
+    refused(table, 0x89, |t| t.store(key(2, 1, 4), YES, &[]));
+}
+
+// The reported number is cut at 253, and the share is not: of 1,024 places it is 511.
+#[test]
+fn a_share_is_not_cut() {
+    let table = &mut Scenes::<MAX_SCENES>::with_modes(modes::SHARE);
+    for i in 1..=511 {
+        assert_eq!(table.add(key(1, i, 1), 0, YES, &[], &[]), SAVED);
+    }
+    refused(table, 0x89, |t| t.add(key(1, 512, 1), 0, YES, &[], &[]));
+    assert_eq!(table.add(key(1, 511, 1), 1, YES, &[], &[]), SAVED);
+}
+
+// Nothing changes the modes, and a copy of the memory has them.
+#[test]
+fn modes_are_kept() {
+    let table = &mut shared();
+    let plain = &mut with::<5>(&[1, 2, 3, 4]);
+    let (mut buffer, mut other) = ([0; Scenes::<5>::IMAGE_MAX], [0; Scenes::<5>::IMAGE_MAX]);
+    assert_eq!(Scenes::from_memory(table.memory().clone()), Ok(table.clone()));
+    // An image has no modes: each table keeps its own. A load takes more than a share, and nothing new comes before there is less.
+    let image = table.save(&mut buffer).unwrap();
+    assert_eq!((table.load(plain.save(&mut other).unwrap()), plain.load(image)), (UNSAVED, UNSAVED));
+    assert_eq!((table.entries(), table.modes(), plain.entries(), plain.modes()), (4, modes::SHARE, 2, 0));
+    refused(table, 0x89, |t| t.add(key(1, 1, 5), 0, YES, &[], &[]));
+    assert_eq!(table.add(key(1, 1, 4), 0, YES, &[], &[]), SAVED);
+    assert_eq!(plain.add(key(1, 1, 5), 0, YES, &[], &[]), SAVED);
+    assert_eq!((table.load(&[]), table.modes()), (UNSAVED, modes::SHARE));
+    assert_eq!((table.startup(), table.modes()), (UNSAVED, modes::SHARE));
+    assert_eq!((table.factory_reset(), table.modes()), (UNSAVED, modes::SHARE));
+    assert_eq!((table.remove_fabric(1), table.modes()), (UNSAVED, modes::SHARE));
+    refused(table, 9, |t| t.load(&[1]));
+    // Memory with other modes is that of another table.
+    let mut memory = shared().memory().clone();
+    memory.modes = 0xFE;
+    let other = &mut Scenes::from_memory(memory).unwrap();
+    assert_eq!((other.add(key(1, 1, 3), 0, YES, &[], &[]), other.modes()), (SAVED, 0xFE));
+}
+
 // The release check: what a fabric stored goes with it, and nobody else's.
 #[test]
 fn remove_fabric() {
