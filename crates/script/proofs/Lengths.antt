@@ -18,14 +18,12 @@ use Rattle.script_lines.specs.Lines as lines
 use Rattle.script_lines.specs.Values.{valueAt}
 use Rattle.script_lines.proofs.Spelling.{spelt, Spells, line-spells}
 use Rattle.script_answers.specs.Done.{Called, answerOf}
-use Rattle.script_answers.specs.Answers.{sizeLine}
 use Rattle.script_answers.specs.Dump.{tableLines}
 use Rattle.script_answers.proofs.AnswerLengths.{all-puts, size-puts, table-puts, answerMost, answer-puts}
 use Rattle.script_sets.specs.Texts.{setsLine}
 use Rattle.script_sets.proofs.Lengths.{sets-puts}
-use Rattle.script_machine.specs.Machines.{sized}
 use Rattle.script.specs.Calls.{call}
-use Rattle.script.specs.Running.{Session, session, tableIn, answered, wrong, called, obeyed, numbers, textIn, texts, saidRuns, runLine}
+use Rattle.script.specs.Running.{Session, session, tableIn, answered, wrong, called, newTable, obeyed, numbers, textIn, texts, saidRuns, runLine}
 use Rattle.script.proofs.RunLaws.{call-fits}
 
 reason-length : (r : Reason) → length (reasonText r) ≤ 21
@@ -76,7 +74,7 @@ module _ (m : Machine) (k t f r buffer line : List ℕ) (most n room : ℕ) (dum
   unfolding obeyed
   obeyed-puts letter values bytes few =
       elim (eqb letter 78) as (λ b. length (numbered b s₀ .buffer) ≤ most → Puts room (λ s. numbered b s .output)) [
-        | true ↦ λ h. puts-most 28 room _ (omega (arith, answer)) (size-puts (m .trace) (valueAt values 0))
+        | true ↦ λ h. puts-most 49 room _ (omega (arith, answer)) (size-puts (m .trace) (valueAt values 0) (valueAt values 1))
         | false ↦
             elim (m .present) as (λ b. length (having b s₀ .buffer) ≤ most → Puts room (λ s. having b s .output)) [
               | true ↦
@@ -109,7 +107,7 @@ module _ (m : Machine) (k t f r buffer line : List ℕ) (most n room : ℕ) (dum
       having b s = cond b (dumping (eqb letter 68) s) (wrong NoTable (on s))
 
       numbered : Bool → Sheet → Session
-      numbered b s = cond b (answered (sized (valueAt values 0) m) (writes (sizeLine (m .trace) (valueAt values 0))) (on s)) (having (m .present) s)
+      numbered b s = cond b (newTable (valueAt values 0) (valueAt values 1) (on s)) (having (m .present) s)
 
   said-puts : (said : Said) → Spells n said → length (saidRuns said (on s₀) .buffer) ≤ most → Puts room (λ s. saidRuns said (on s) .output)
   said-puts lines.Nothing few h = puts-most 0 room (λ s. s) (omega arith) puts-nothing

@@ -12,8 +12,8 @@ use Rattle.script_answers.specs.declared.Answer.{Answer}
 use Rattle.script_machine.specs.declared.Machine.{Machine}
 use Rattle.script_machine.specs.declared.Ran.{Ran}
 use Rattle.text_output.specs.declared.reason.Reason.the-variants.{NoTable}
-use Rattle.text_output.specs.Writing.{Sheet, sheet, writes}
-use Rattle.script_answers.specs.Answers.{answerLine, sizeLine, fits}
+use Rattle.text_output.specs.Writing.{Sheet, sheet}
+use Rattle.script_answers.specs.Answers.{answerLine, fits}
 use Rattle.script_answers.specs.Dump.{tableLines}
 use Rattle.script_answers.specs.Done.{doneOf, Called, calledOf}
 use Rattle.script_lines.specs.Values.{valueAt}
@@ -24,8 +24,8 @@ use Rattle.script_reads.specs.Reads.{query, view, recall, listIn, list, info}
 use Rattle.script_events.specs.Writes.{hostWrite, setVersion, pushEntry, pushRecord}
 use Rattle.script_events.specs.Events.{event}
 use Rattle.script_lines.specs.Lines.{oneOf, kindsOf, Meaning, wordRead}
-use Rattle.script.specs.Running.{withState, Session, session, tableIn, answered, wrong, answeredCall, called, obeyed, numbers, texts}
-use Rattle.script_machine.specs.Machines.{sized, Ended}
+use Rattle.script.specs.Running.{withState, Session, session, tableIn, answered, wrong, answeredCall, called, newTable, obeyed, numbers, texts}
+use Rattle.script_machine.specs.Machines.{Ended}
 use Rattle.script_answers.proofs.DoneLaws.{fit-called}
 use Rattle.script_commands.proofs.Fits.{command-fits}
 use Rattle.script_reads.proofs.Fits.{query-fits}
@@ -64,8 +64,7 @@ answer-fits a after later letter values bytes buffer t e = subst (λ (c : Called
 -- ---- what an understood line asks for
 
 module _ (letter : ℕ) (values : List ℕ) (bytes : ℕ → List ℕ) (s : Session) where
-  pub obeys-size : letter ≡ 78
-      → answered (sized (valueAt values 0) (s .machine)) (writes (sizeLine (s .machine .trace) (valueAt values 0))) s ≡ obeyed letter values bytes s
+  pub obeys-size : letter ≡ 78 → newTable (valueAt values 0) (valueAt values 1) s ≡ obeyed letter values bytes s
   unfolding obeyed
   obeys-size e = rw (eq-eqb letter 78 e)
 

@@ -66,10 +66,14 @@ answeredCall letter c s = record {
 abbrev pub called : ℕ → List ℕ → (ℕ → List ℕ) → Session → Session
 called letter values bytes s = answeredCall letter (call letter values bytes (s .buffer) (tableIn s)) s
 
+-- N: a table of a size, with modes, and its answer
+abbrev pub newTable : ℕ → ℕ → Session → Session
+newTable size modes s = answered (sized size modes (s .machine)) (writes (sizeLine (s .machine .trace) size modes)) s
+
 -- N makes a table; without one all else is an error; D shows it, Y shows the sets in field bytes, and any other letter calls it
 unfoldable pub obeyed : ℕ → List ℕ → (ℕ → List ℕ) → Session → Session
 obeyed letter values bytes s =
-    cond (eqb letter 78) (answered (sized (valueAt values 0) (s .machine)) (writes (sizeLine (s .machine .trace) (valueAt values 0))) s)
+    cond (eqb letter 78) (newTable (valueAt values 0) (valueAt values 1) s)
     (cond (s .machine .present)
     (cond (eqb letter 68) (answered (s .machine) (tableLines (tableIn s)) s)
     (cond (eqb letter 89) (answered (s .machine) (setsLine (s .machine .trace) (s .machine .state) (bytes 0)) s)

@@ -64,7 +64,7 @@ fn obeyed(
         ⌜ after ≡ obeyed (read .letter) (read .values) (bytesAt read (now (line .entry))) before ⌝ }
 {
     if read.letter == b'N' {
-        return machine.sized(out, at, read.values[0]);
+        return machine.sized(out, at, read.values[0], read.values[1]);
     }
     if machine.present {
         if read.letter == b'D' {

@@ -4,7 +4,7 @@ use mathlib.Core.Path.{_≡_, refl, ap}
 use mathlib.Core.Bool.{Bool, true, false, cond, _&&_}
 use mathlib.Core.List.{List, [], _∷_}
 use native.Mathlib.Omega.{arith}
-use lib.Dec.{ltb}
+use lib.Dec.{eqb, ltb}
 use lib.ListN.{length, getD, take, drop, length-take, length-append}
 use borrow.Author.Tests.{ltb-true, ltb-false}
 use Rattle.words.specs.Constants.{maxFields, stride}
@@ -19,11 +19,12 @@ use Rattle.state.proofs.Laws.{sound-length}
 use Rattle.text_output.specs.Writing.{puts, writes, writesBelow, Puts, digitsIn, decimal, number, newline, spaced, flagText, hexByte, hexText, bytesText, isFault, statusText}
 use Rattle.text_output.proofs.Writing.{decimal-one, decimal-more}
 use Rattle.text_output.proofs.Whole.{total, puts-text, puts-nothing, puts-then, puts-most, puts-all, puts-below, number-length}
+use Rattle.script_lines.specs.Lines.{notGiven}
 use Rattle.script_answers.specs.declared.Row.{Row}
 use Rattle.script_answers.specs.declared.Answer.{Answer}
 use Rattle.script_answers.specs.declared.Tail.{Tail}
 use Rattle.script_answers.specs.declared.Tail.the-variants.{Nothing, Scene, Ids, NoRow, Info, Image}
-use Rattle.script_answers.specs.Answers.{sizeLine, headTexts, rowTexts, sceneBytes, sceneTexts, listTexts, fits, tailOf, answerLine}
+use Rattle.script_answers.specs.Answers.{modesText, sizeLine, headTexts, rowTexts, sceneBytes, sceneTexts, listTexts, fits, tailOf, answerLine}
 use Rattle.script_answers.specs.Dump.{entryTexts, entryLine, recordLine, countsLine, tableLines}
 
 -- texts of at most so many bytes
@@ -36,6 +37,14 @@ flag-length : (b : Bool) → length (flagText b) ≤ 1
 unfolding digitsIn
 flag-length true = omega arith
 flag-length false = omega arith
+
+modes-length : (modes : ℕ) → length (modesText modes) ≤ 21
+modes-length modes =
+    let l = number-length modes in
+    elim (eqb modes notGiven) as (λ b. length (cond b [] (number modes)) ≤ 21) [
+      | true ↦ omega arith
+      | false ↦ l
+    ]
 
 -- a fault has at most two digits
 fault-length : (s : ℕ) → s < 16 → length (decimal s) ≤ 2
@@ -83,10 +92,12 @@ fields-length at t =
 
 -- ---- lines
 
-pub size-puts : (trace : Bool) (n : ℕ) → Puts 28 (writes (sizeLine trace n))
+pub size-puts : (trace : Bool) (n modes : ℕ) → Puts 49 (writes (sizeLine trace n modes))
 unfolding total
-size-puts true n = all-puts (sizeLine true n) 28 (let l = number-length n in omega arith)
-size-puts false n = all-puts (sizeLine false n) 28 (let l = number-length n in omega arith)
+size-puts true n modes =
+    all-puts (sizeLine true n modes) 49 (let l = number-length n in let m = modes-length modes in omega arith)
+size-puts false n modes =
+    all-puts (sizeLine false n modes) 49 (let l = number-length n in let m = modes-length modes in omega arith)
 
 pub head-puts : (trace : Bool) (letter : ℕ) (a : Answer) → Puts 70 (writes (headTexts trace letter a))
 unfolding total

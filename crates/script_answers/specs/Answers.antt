@@ -2,22 +2,28 @@
 use Prim.Native.Nat.{ℕ, _+_, _*_, _≤_, min}
 use mathlib.Core.Bool.{Bool, cond}
 use mathlib.Core.List.{List, [], _∷_}
+use lib.Dec.{eqb}
 use lib.ListN.{length, getD, take, drop}
 use Rattle.words.specs.Constants.{maxScenes, maxFields, stride}
+use Rattle.script_lines.specs.Lines.{notGiven}
 use Rattle.script_answers.specs.declared.Row.{Row}
 use Rattle.script_answers.specs.declared.Tail.{Tail}
 use Rattle.script_answers.specs.declared.Tail.the-variants.{Nothing, Scene, Ids, NoRow, Info, Image}
 use Rattle.script_answers.specs.declared.Answer.{Answer}
 use Rattle.text_output.specs.Writing.{Sheet, puts, writes, writesBelow, newline, number, spaced, flagText, bytesText, statusText}
 
--- ---- the size of a table
+-- ---- the size and the modes of a table
 
 -- `N` in a trace, else `scenes`
 abbrev pub sizeWord : Bool → List ℕ
 sizeWord trace = cond trace (78 ∷ []) (115 ∷ 99 ∷ 101 ∷ 110 ∷ 101 ∷ 115 ∷ [])
 
-abbrev pub sizeLine : Bool → ℕ → List (List ℕ)
-sizeLine trace n = sizeWord trace ∷ number n ∷ newline ∷ []
+-- no text for modes that are not given
+abbrev pub modesText : ℕ → List ℕ
+modesText modes = cond (eqb modes notGiven) [] (number modes)
+
+abbrev pub sizeLine : Bool → ℕ → ℕ → List (List ℕ)
+sizeLine trace n modes = sizeWord trace ∷ number n ∷ modesText modes ∷ newline ∷ []
 
 -- ---- an answer
 

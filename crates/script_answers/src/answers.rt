@@ -2,6 +2,7 @@
 use crate::Answer;
 use crate::Row;
 use crate::Tail;
+use script_lines::Bounds;
 use text_input::part;
 use text_output::end_line;
 use text_output::put;
@@ -18,7 +19,7 @@ ghost use Prim.Native.Nat.{min, _≤_};
 ghost use lib.ListN.{length, getD};
 ghost use Rattle.words.specs.Constants.{maxScenes};
 ghost use Rattle.text_output.specs.Writing.{sheet, puts, writes, writesBelow, number};
-ghost use Rattle.script_answers.specs.Answers.{sizeWord, sizeLine, headTexts, rowTexts, sceneBytes, sceneTexts, listTexts, imageText, fits, tailOf, answerLine};
+ghost use Rattle.script_answers.specs.Answers.{sizeWord, modesText, sizeLine, headTexts, rowTexts, sceneBytes, sceneTexts, listTexts, imageText, fits, tailOf, answerLine};
 
 // `N` in a trace, else `scenes`.
 fn put_size_word(out: &mut [u8], at: usize, trace: bool) -> usize
@@ -30,13 +31,24 @@ fn put_size_word(out: &mut [u8], at: usize, trace: bool) -> usize
     put_text(out, at, b"scenes")
 }
 
+// The modes of a table, if they were given.
+fn put_modes(out: &mut [u8], at: usize, modes: u64) -> usize
+    ensures { λ r. ⌜ sheet (now (out .exit)) r ≡ puts (modesText modes) (sheet (now (out .entry)) at) ⌝ }
+{
+    if modes == Bounds::NOT_GIVEN {
+        return at;
+    }
+    put_number(out, at, modes)
+}
+
 // The answer to N.
-pub fn put_size(out: &mut [u8], at: usize, trace: bool, size: u64) -> usize
-    ensures { λ r. ⌜ sheet (now (out .exit)) r ≡ writes (sizeLine trace size) (sheet (now (out .entry)) at) ⌝ }
+pub fn put_size(out: &mut [u8], at: usize, trace: bool, size: u64, modes: u64) -> usize
+    ensures { λ r. ⌜ sheet (now (out .exit)) r ≡ writes (sizeLine trace size modes) (sheet (now (out .entry)) at) ⌝ }
 {
     let word = put_size_word(out, at, trace);
     let number = put_number(out, word, size);
-    end_line(out, number)
+    let end = put_modes(out, number, modes);
+    end_line(out, end)
 }
 
 fn put_row(out: &mut [u8], at: usize, row: Row) -> usize

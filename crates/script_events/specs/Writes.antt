@@ -22,7 +22,7 @@ raw status t = readOf status Nothing t
 
 abbrev pub withVersion : ℕ → Table → Table
 withVersion n t = record {
-  state = record { size = t .state .size; entries = t .state .entries; recorded = t .state .recorded; dataver = n };
+  state = record { size = t .state .size; entries = t .state .entries; recorded = t .state .recorded; dataver = n; modes = t .state .modes };
   slots = t .slots;
   records = t .records;
 }

@@ -18,9 +18,9 @@ use Rattle.text_input.specs.Reading.{blank, inWord, leading, wordFrom, numberOf
 use Rattle.text_input.proofs.Reading.{word-start, word-end}
 use Rattle.words.specs.Below.{positions}
 use Rattle.script_lines.specs.declared.reader.Kind.{Kind}
-use Rattle.script_lines.specs.declared.reader.Kind.the-variants.{End, Byte, Short, Long, Member, Flag, Size, Digits, Hex, Override, Length}
+use Rattle.script_lines.specs.declared.reader.Kind.the-variants.{End, Byte, Short, Long, Member, Flag, Size, Modes, Digits, Hex, Override, Length}
 use Rattle.script_lines.specs.declared.reader.Reading.{Reading}
-use Rattle.script_lines.specs.Lines.{Meaning, Number, Text, Unclear, numeral, spelling, overrideOf, mostScenes, spells, wordSays, wordAnswer, wordLeft, readAs, meaning, blanks, afterBlanks, firstWord, behindWord, Said, Nothing, Wrong, Call, ahead, follow, wordsSay, letterSays, lineSays, known, oneOf, kindsOf, understood, wordsLeft, lineLeft, ReadsNext, wordRead}
+use Rattle.script_lines.specs.Lines.{Meaning, Number, Text, Unclear, numeral, spelling, overrideOf, mostScenes, modesOf, spells, wordSays, wordAnswer, wordLeft, readAs, meaning, blanks, afterBlanks, firstWord, behindWord, Said, Nothing, Wrong, Call, ahead, follow, wordsSay, letterSays, lineSays, known, oneOf, kindsOf, understood, wordsLeft, lineLeft, ReadsNext, wordRead}
 use Rattle.text_input.specs.declared.input.Word.the-variants as word
 
 -- ---- a word
@@ -59,6 +59,7 @@ word-says trace Long w rest = numeral-says Long refl (numberOf (2 ^ 32 - 1) w) w
 word-says trace Member w rest = numeral-says Member refl (numberOf 2 w) w rest
 word-says trace Flag w rest = numeral-says Flag refl (numberOf 1 w) w rest
 word-says trace Size w rest = numeral-says Size refl (numberOf (mostScenes trace) w) w rest
+word-says trace Modes w rest = numeral-says Modes refl (modesOf trace w) w rest
 word-says trace Digits w rest = spelling-says Digits refl (orDash w (digitBytes w)) w rest
 word-says trace Hex w rest = spelling-says Hex refl (orDash w (hexPairs w)) w rest
 word-says trace Override w rest = numeral-says Override refl (overrideOf w) w rest

@@ -4,7 +4,7 @@ use mathlib.Core.Bool.{true, false}
 use mathlib.Core.List.{[], _∷_}
 use Rattle.text_output.specs.declared.reason.Reason.the-variants.{Unknown, Missing, TooMany, TooLarge}
 use Rattle.text_input.specs.Reading.{blank, leading, digitValue, numberFrom, numberOf, same, orDash, hexValue, allPairs, pairBytes}
-use Rattle.script_lines.specs.Lines.{oneOf, known, kindsOf, Number, Text, Nothing, Wrong, Call, wordsSay, letterSays, lineSays, wordsLeft, lineLeft}
+use Rattle.script_lines.specs.Lines.{oneOf, known, kindsOf, notGiven, modesOf, Number, Text, Nothing, Wrong, Call, wordsSay, letterSays, lineSays, wordsLeft, lineLeft}
 
 -- a blank and a tab
 blank-line : lineSays true (32 ∷ 9 ∷ []) ≡ Nothing
@@ -38,6 +38,32 @@ too-many = refl
 too-large : lineSays true (70 ∷ 32 ∷ 50 ∷ 53 ∷ 54 ∷ []) ≡ Wrong TooLarge
 unfolding lineSays blank leading letterSays known oneOf kindsOf wordsSay numberOf numberFrom digitValue
 too-large = refl
+
+-- `N 3`, `N 3 1`, `N 3 256` and `N 3 1 1`, of scenetrace
+no-modes : lineSays true (78 ∷ 32 ∷ 51 ∷ []) ≡ Call 78 (Number 3 ∷ Number notGiven ∷ Number 0 ∷ Number 0 ∷ Number 0 ∷ Number 0 ∷ Number 0 ∷ Number 0 ∷ Number 0 ∷ Number 0 ∷ [])
+unfolding lineSays blank leading letterSays known oneOf kindsOf modesOf wordsSay numberOf numberFrom digitValue
+no-modes = refl
+
+modes : lineSays true (78 ∷ 32 ∷ 51 ∷ 32 ∷ 49 ∷ []) ≡ Call 78 (Number 3 ∷ Number 1 ∷ Number 0 ∷ Number 0 ∷ Number 0 ∷ Number 0 ∷ Number 0 ∷ Number 0 ∷ Number 0 ∷ Number 0 ∷ [])
+unfolding lineSays blank leading letterSays known oneOf kindsOf modesOf wordsSay numberOf numberFrom digitValue
+modes = refl
+
+modes-too-large : lineSays true (78 ∷ 32 ∷ 51 ∷ 32 ∷ 50 ∷ 53 ∷ 54 ∷ []) ≡ Wrong TooLarge
+unfolding lineSays blank leading letterSays known oneOf kindsOf modesOf wordsSay numberOf numberFrom digitValue
+modes-too-large = refl
+
+behind-modes : lineSays true (78 ∷ 32 ∷ 51 ∷ 32 ∷ 49 ∷ 32 ∷ 49 ∷ []) ≡ Wrong TooMany
+unfolding lineSays blank leading letterSays known oneOf kindsOf modesOf wordsSay numberOf numberFrom digitValue
+behind-modes = refl
+
+-- `N 3` and `N 3 1`, of scenebench
+bench-size : lineSays false (78 ∷ 32 ∷ 51 ∷ []) ≡ Call 78 (Number 3 ∷ Number notGiven ∷ Number 0 ∷ Number 0 ∷ Number 0 ∷ Number 0 ∷ Number 0 ∷ Number 0 ∷ Number 0 ∷ Number 0 ∷ [])
+unfolding lineSays blank leading letterSays known oneOf kindsOf modesOf wordsSay numberOf numberFrom digitValue
+bench-size = refl
+
+bench-modes : lineSays false (78 ∷ 32 ∷ 51 ∷ 32 ∷ 49 ∷ []) ≡ Wrong TooMany
+unfolding lineSays blank leading letterSays known oneOf kindsOf modesOf wordsSay numberOf numberFrom digitValue
+bench-modes = refl
 
 -- `S 1 2 3 4 1 0aF0`
 bytes : lineSays false (83 ∷ 32 ∷ 49 ∷ 32 ∷ 50 ∷ 32 ∷ 51 ∷ 32 ∷ 52 ∷ 32 ∷ 49 ∷ 32 ∷ 48 ∷ 97 ∷ 70 ∷ 48 ∷ [])

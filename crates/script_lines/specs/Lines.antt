@@ -11,7 +11,7 @@ use Rattle.text_output.specs.declared.reason.Reason.{Reason}
 use Rattle.text_input.specs.declared.input.Word.{Word}
 use Rattle.text_input.specs.Reading.{blank, inWord, leading, wordFrom, numberOf, same, Spelled, Bytes, Refused, orDash, hexPairs, digitBytes, Turned, turned, laid}
 use Rattle.script_lines.specs.declared.reader.Kind.{Kind}
-use Rattle.script_lines.specs.declared.reader.Kind.the-variants.{End, Byte, Short, Long, Member, Flag, Size, Digits, Hex, Override, Length}
+use Rattle.script_lines.specs.declared.reader.Kind.the-variants.{End, Byte, Short, Long, Member, Flag, Size, Modes, Digits, Hex, Override, Length}
 use Rattle.script_lines.specs.declared.reader.Verdict.{Verdict}
 use Rattle.script_lines.specs.declared.reader.Reading.{Reading}
 use Rattle.script_lines.specs.declared.reader.Line.{Line}
@@ -37,6 +37,10 @@ known letter trace =
 abbrev pub mostImage : ℕ
 mostImage = 175112
 
+-- the kinds of two words
+abbrev pub twoWords : Kind → Kind → List Kind
+twoWords a b = a ∷ b ∷ End ∷ End ∷ End ∷ End ∷ End ∷ End ∷ End ∷ End ∷ []
+
 -- the kinds of the four words of a scene, and of up to four words behind them
 abbrev pub sceneAnd : Kind → Kind → Kind → Kind → List Kind
 sceneAnd a b c d = Byte ∷ Short ∷ Short ∷ Byte ∷ a ∷ b ∷ c ∷ d ∷ End ∷ End ∷ []
@@ -44,7 +48,7 @@ sceneAnd a b c d = Byte ∷ Short ∷ Short ∷ Byte ∷ a ∷ b ∷ c ∷ d ∷
 -- the kinds of the words that a letter takes, ten with the missing ones
 unfoldable pub kindsOf : ℕ → List Kind
 kindsOf letter =
-    cond (eqb letter 78) (Size ∷ End ∷ End ∷ End ∷ End ∷ End ∷ End ∷ End ∷ End ∷ End ∷ [])
+    cond (eqb letter 78) (twoWords Size Modes)
     (cond (eqb letter 65) (sceneAnd Long Member Digits Hex)
     (cond (eqb letter 66) (sceneAnd Long Member Digits Hex)
     (cond (eqb letter 83) (sceneAnd Member Hex End End)
@@ -91,6 +95,14 @@ overrideOf w =
 abbrev pub mostScenes : Bool → ℕ
 mostScenes trace = cond trace 1024 256
 
+-- what stands for modes that are not given: no byte is so large
+abbrev pub notGiven : ℕ
+notGiven = 2 ^ 8
+
+-- the modes of a table, which may be missing. scenebench takes no further word
+unfoldable pub modesOf : Bool → List ℕ → Word
+modesOf trace w = cond (eqb (length w) 0) (word.Value notGiven) (cond trace (numberOf 255 w) (word.Wrong reason.TooMany))
+
 -- whether words of a kind spell bytes
 abbrev pub spells : Kind → Bool
 spells End = false
@@ -100,6 +112,7 @@ spells Long = false
 spells Member = false
 spells Flag = false
 spells Size = false
+spells Modes = false
 spells Digits = true
 spells Hex = true
 spells Override = false
@@ -114,6 +127,7 @@ wordSays trace Long w = numeral (numberOf (2 ^ 32 - 1) w)
 wordSays trace Member w = numeral (numberOf 2 w)
 wordSays trace Flag w = numeral (numberOf 1 w)
 wordSays trace Size w = numeral (numberOf (mostScenes trace) w)
+wordSays trace Modes w = numeral (modesOf trace w)
 wordSays trace Digits w = spelling (orDash w (digitBytes w))
 wordSays trace Hex w = spelling (orDash w (hexPairs w))
 wordSays trace Override w = numeral (overrideOf w)

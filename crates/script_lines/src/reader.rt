@@ -11,7 +11,7 @@ ghost use mathlib.Core.Path.{_≡_};
 ghost use mathlib.Core.List.{_++_};
 ghost use lib.ListN.{length, take, drop};
 ghost use Rattle.text_input.specs.Reading.{turned};
-ghost use Rattle.script_lines.specs.Lines.{oneOf, known, sceneAnd, kindsOf, overrideOf, mostScenes, readAs, wordSays, wordsSay, wordsLeft, lineSays, lineLeft, ReadsNext, ReadsLine};
+ghost use Rattle.script_lines.specs.Lines.{oneOf, known, twoWords, sceneAnd, kindsOf, overrideOf, mostScenes, modesOf, readAs, wordSays, wordsSay, wordsLeft, lineSays, lineLeft, ReadsNext, ReadsLine};
 
 // The kinds of words.
 enum Kind {
@@ -27,6 +27,8 @@ enum Kind {
     Flag,
     // The size of a table.
     Size,
+    // The modes of a table, which may be missing: a byte in scenetrace, no further word in scenebench.
+    Modes,
     Digits,
     Hex,
     // A transition time, or `-` or `null` for none.
@@ -51,6 +53,9 @@ impl Bounds {
 
     // What stands for no override: no time is so large.
     pub const STORED: u64 = 0x1_0000_0000;
+
+    // What stands for modes that are not given: no byte is so large.
+    pub const NOT_GIVEN: u64 = 0x100;
 }
 
 // What is to be done with a line: nothing, what it says, or to say why it is not understood.
@@ -81,6 +86,14 @@ impl Line {
     }
 }
 
+// The kinds of two words.
+fn two_words(a: Kind, b: Kind) -> [Kind; 10]
+    ensures { λ r. ⌜ r ≡ twoWords a b ⌝ }
+{
+    let end = Kind::End;
+    [a, b, end, end, end, end, end, end, end, end]
+}
+
 // The kinds of the four words of a scene, and of up to four words behind them.
 fn scene_and(a: Kind, b: Kind, c: Kind, d: Kind) -> [Kind; 10]
     ensures { λ r. ⌜ r ≡ sceneAnd a b c d ⌝ }
@@ -104,7 +117,7 @@ fn kinds_of(letter: u8) -> [Kind; 10]
     let list = Kind::Length(Bounds::LIST);
     let image = Kind::Length(Bounds::IMAGE);
     match letter {
-        b'N' => [Kind::Size, end, end, end, end, end, end, end, end, end],
+        b'N' => two_words(Kind::Size, Kind::Modes),
         b'A' => scene_and(long, member, Kind::Digits, Kind::Hex),
         b'B' => scene_and(long, member, Kind::Digits, Kind::Hex),
         b'S' => scene_and(member, Kind::Hex, end, end),
@@ -173,6 +186,19 @@ fn most_scenes(trace: bool) -> u64
     Bounds::BENCH
 }
 
+// The modes of a table, or that they are not given.
+fn modes(word: &[u8], trace: bool) -> Word
+    ensures { λ r. ⌜ r ≡ modesOf trace (now (word .entry)) ⌝ }
+{
+    if word.len() == 0 {
+        return Word::Value(Bounds::NOT_GIVEN);
+    }
+    if trace {
+        return number(word, 0xFF);
+    }
+    Word::Wrong(Reason::TooMany)
+}
+
 // A transition time, or none.
 fn transition(word: &[u8]) -> Word
     ensures { λ r. ⌜ r ≡ overrideOf (now (word .entry)) ⌝ }
@@ -203,6 +229,7 @@ fn read_word(word: &mut [u8], kind: Kind, trace: bool) -> Word
         Kind::Member => number(word, 2),
         Kind::Flag => number(word, 1),
         Kind::Size => number(word, most_scenes(trace)),
+        Kind::Modes => modes(word, trace),
         Kind::Digits => digits(word),
         Kind::Hex => hex(word),
         Kind::Override => transition(word),

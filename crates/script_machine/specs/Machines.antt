@@ -2,10 +2,14 @@
 -- call of the table leaves.
 use Prim.Native.Nat.{ℕ, _+_, _%_, _^_}
 use mathlib.Core.Path.{_≡_}
-use mathlib.Core.Bool.{Bool, true, false}
+use mathlib.Core.Bool.{Bool, true, false, cond}
 use mathlib.Core.List.{List}
-use Rattle.state.specs.Table.{newState}
+use lib.Dec.{eqb}
+use Rattle.state.specs.declared.ScenesState.{ScenesState}
+use Rattle.state.specs.Table.{newState, newStateWith}
 use Rattle.text_output.specs.Writing.{Sheet, sheet}
+use Rattle.script_lines.specs.Lines.{notGiven}
+use Rattle.script_lines.specs.Values.{byte}
 use Rattle.script_machine.specs.declared.Machine.{Machine}
 use Rattle.script_machine.specs.declared.Ran.{Ran}
 
@@ -17,9 +21,13 @@ newMachine trace = record { state = newState 0; present = false; trace = trace; 
 abbrev pub counted : Machine → Machine
 counted m = record { state = m .state; present = m .present; trace = m .trace; lines = (m .lines + 1) % 2 ^ 64 }
 
--- an empty table of a size
-abbrev pub sized : ℕ → Machine → Machine
-sized size m = record { state = newState size; present = true; trace = m .trace; lines = m .lines }
+-- the head of a new table, without modes if they are not given
+abbrev pub newHead : ℕ → ℕ → ScenesState
+newHead size modes = cond (eqb modes notGiven) (newState size) (newStateWith size (byte modes))
+
+-- an empty table of a size, with modes
+abbrev pub sized : ℕ → ℕ → Machine → Machine
+sized size modes m = record { state = newHead size modes; present = true; trace = m .trace; lines = m .lines }
 
 -- a line that leaves a machine that is known, and an output that is known
 pub record Ended (m : Machine) (written : Sheet → Sheet) (out : List ℕ) (at : ℕ) (after : List ℕ) (r : Ran) : Type 0 where

@@ -2,7 +2,9 @@
 // field bytes, and a line that is not understood.
 use script_answers::put_size;
 use script_answers::put_table;
+use script_lines::Bounds;
 use script_lines::Line;
+use script_lines::byte;
 use script_sets::put_sets;
 use state::ScenesState;
 use text_input::part;
@@ -16,7 +18,7 @@ ghost use Rattle.script_answers.specs.Answers.{sizeLine};
 ghost use Rattle.script_answers.specs.Dump.{tableLines};
 ghost use Rattle.script_lines.specs.Values.{bytesAt};
 ghost use Rattle.script_sets.specs.Texts.{setsLine};
-ghost use Rattle.script_machine.specs.Machines.{newMachine, counted, sized, Ended};
+ghost use Rattle.script_machine.specs.Machines.{newMachine, counted, newHead, sized, Ended};
 
 // What a run keeps from line to line: the head of the table, whether there is one, whether every call may be made or only those of
 // scenebench, and how many lines were read.
@@ -31,6 +33,16 @@ pub struct Machine {
 pub struct Ran {
     pub machine: Machine,
     pub at: usize,
+}
+
+// The head of a new table, without modes if they are not given.
+fn new_head(size: u64, modes: u64) -> ScenesState
+    ensures { λ r. ⌜ r ≡ newHead size modes ⌝ }
+{
+    if modes == Bounds::NOT_GIVEN {
+        return ScenesState::new(size as usize);
+    }
+    ScenesState::with_modes(size as usize, byte(modes))
 }
 
 impl Machine {
@@ -65,14 +77,15 @@ impl Machine {
     }
 
     // N: a new table.
-    pub fn sized(mut self, out: &mut [u8], at: usize, size: u64) -> Ran
-        ensures { λ r. ⌜ Ended (sized size self) (writes (sizeLine (self .trace) size)) (now (out .entry)) at (now (out .exit)) r ⌝ }
+    pub fn sized(mut self, out: &mut [u8], at: usize, size: u64, modes: u64) -> Ran
+        ensures { λ r.
+            ⌜ Ended (sized size modes self) (writes (sizeLine (self .trace) size modes)) (now (out .entry)) at (now (out .exit)) r ⌝ }
     {
-        self.state = ScenesState::new(size as usize);
+        self.state = new_head(size, modes);
         self.present = true;
         Ran {
             machine: self,
-            at: put_size(out, at, self.trace, size),
+            at: put_size(out, at, self.trace, size, modes),
         }
     }
 

@@ -15,7 +15,7 @@ abbrev start : tie.After-slice-known6 → tie.Start
 start c = c .before .before .before .before .before .before .before
 
 abbrev is-size : tie.After-sized → tie.Then1
-is-size c = c .before .before .before
+is-size c = c .before .before .before .before
 
 abbrev sizing : tie.After-slice-known7 → tie.After-sized
 sizing c = c .before .before
@@ -108,6 +108,7 @@ pub obeyed-spec : {M : Type 1} → statement M
 obeyed-spec =
     tie.close
     (tie.spec
+    (λ c. search needs)
     (λ c. search needs)
     (λ c κs. search needs)
     (λ c. search needs)

@@ -8,7 +8,7 @@ use Rattle.script_lines.proofs.reader.kinds_of.Tie as tie
 
 returns : tie.Need-returns
 unfolding kindsOf
-returns c = rw (c .match .keys1)
+returns c = rw (c .before .match .keys1) (c .two-words .ensures)
 
 returns-2 : tie.Need-returns-2
 unfolding kindsOf
@@ -104,6 +104,7 @@ pub kinds-of-spec : {M : Type 1} → statement M
 kinds-of-spec =
     tie.close
     (tie.spec
+    (λ c κs. search needs)
     (λ c κs. search needs)
     (λ c κs. search needs)
     (λ c κs. search needs)

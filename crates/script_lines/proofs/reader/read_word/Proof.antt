@@ -45,24 +45,27 @@ returns-9 c =
     rw (t .enum-told7 .given .1) (number-read w (c .number6 .ensures ∙ ap (λ (m : ℕ). numberOf m w) (most .most-scenes .ensures)))
 
 returns-10 : tie.Need-returns-10
-returns-10 c =
-    let d = c .before .before in
-    let t = d .before .before in
-    let w = came (t .before .before) in
-    rw (t .enum-told8 .given .1) (d .digits .ensures ∙ spelling-read (orDash w (digitBytes w)) w)
+returns-10 c = let t = c .before .before in rw (t .enum-told8 .given .1) (number-read (came (t .before .before)) (c .modes .ensures))
 
 returns-11 : tie.Need-returns-11
 returns-11 c =
+    let d = c .before .before in
+    let t = d .before .before in
+    let w = came (t .before .before) in
+    rw (t .enum-told9 .given .1) (d .digits .ensures ∙ spelling-read (orDash w (digitBytes w)) w)
+
+returns-12 : tie.Need-returns-12
+returns-12 c =
     let h = c .before .before in
     let t = h .before .before in
     let w = came (t .before .before) in
-    rw (t .enum-told9 .given .1) (h .hex .ensures ∙ spelling-read (orDash w (hexPairs w)) w)
-
-returns-12 : tie.Need-returns-12
-returns-12 c = let t = c .before .before in rw (t .enum-told10 .given .1) (number-read (came (t .before .before)) (c .transition .ensures))
+    rw (t .enum-told10 .given .1) (h .hex .ensures ∙ spelling-read (orDash w (hexPairs w)) w)
 
 returns-13 : tie.Need-returns-13
-returns-13 c =
+returns-13 c = let t = c .before .before in rw (t .enum-told11 .given .1) (number-read (came (t .before .before)) (c .transition .ensures))
+
+returns-14 : tie.Need-returns-14
+returns-14 c =
     let e = c .before .before in
     let t = e .before .before in
     rw (t .kind .given .1, ne-eqb _ _ (e .if2 .left)) (number-read (came (t .before .before)) (c .number7 .ensures))
@@ -93,6 +96,8 @@ read-word-spec =
     (λ c. search needs)
     (λ c κs. search needs)
     (λ c. search needs)
+    (λ c κs. search needs)
+    (λ c. search needs)
     returns-2
     (λ c κs. search needs)
     returns-3
@@ -115,4 +120,6 @@ read-word-spec =
     (λ c. search needs)
     returns-12
     (λ c. search needs)
-    returns-13)
+    returns-13
+    (λ c. search needs)
+    returns-14)
