@@ -35,6 +35,7 @@ use Rattle.observation.proofs.Choices.{cond-elim, or-none, or-other, co
 use Rattle.observation.proofs.Bits.{key-fabric}
 use Rattle.observation.proofs.Places.{by-mode, share-places}
 use Rattle.observation.proofs.Views.{entries-length}
+use Rattle.observation.proofs.Invariant.{placed}
 use Rattle.observation.proofs.CopyViews.{AllMine, mine-of, used-put}
 use Rattle.observation.proofs.RespondCopy.{own-targets}
 use Rattle.observation.proofs.Calls.{laws, step-sound}
@@ -62,7 +63,8 @@ module _ (f : ℕ) where
   room-left v h = omega arith
 
   -- a write of the fabric that has its place
-  bounded-put : (x : SceneEntry) (v : View) → fabricOf (x .key) ≡ f → (has (keyIs (x .key)) (v .entries) ≡ false → 0 < roomIn f v) → Bounded v → Bounded (written x v)
+  bounded-put : (x : SceneEntry) (v : View) → fabricOf (x .key) ≡ f → (has (keyIs (x .key)) (v .entries) ≡ false → 0 < roomIn f v) → Bounded v
+      → Bounded (written x v)
   bounded-put x v own room b g =
       let k = keyIs (x .key) in
       (elim (eqb f g) as (λ c. eqb f g ≡ c → usedIn g (written x v) ≤ (v .size - 1) / 2) [
@@ -94,13 +96,14 @@ module _ (f : ℕ) where
       cond-elim (λ (s : Seen). Bounded (s .1)) (o .0) (λ _. bounded-invalidated scope (o .1) c) (λ _. c)
 
   -- an upsert in share mode
-  bounded-upsert : (x : SceneEntry) (v : View) → fabricOf (x .key) ≡ f → shareIn v ≡ true → placeFor f (x .key) v ≡ true → Bounded v → Bounded (written x v)
+  bounded-upsert : (x : SceneEntry) (v : View) → fabricOf (x .key) ≡ f → shareIn v ≡ true → placeFor f (x .key) v ≡ true → Bounded v
+      → Bounded (written x v)
   bounded-upsert x v own share q =
-      let here = has (keyIs (x .key)) (v .entries) in
-      bounded-put x v own (λ n. subst (λ (m : ℕ). 0 < m) (share-places f v share) (ltb-true 0 (placesIn f v) (or-other here (ltb 0 (placesIn f v)) q n)))
+      bounded-put x v own (λ n. subst (λ (m : ℕ). 0 < m) (share-places f v share) (placed f (x .key) v q n))
 
 -- what a command that its gate lets pass leaves
-module _ (f e : ℕ) (t : Table) (sd : sound t ≡ true) (hf : f < 2 ^ 8) (he : e < 2 ^ 16) (share : shareIn (viewOf t) ≡ true) (b : Bounded (viewOf t)) where
+module _ (f e : ℕ) (t : Table) (sd : sound t ≡ true) (hf : f < 2 ^ 8) (he : e < 2 ^ 16)
+    (share : shareIn (viewOf t) ≡ true) (b : Bounded (viewOf t)) where
   abbrev v : View
   v = viewOf t
 
@@ -110,9 +113,9 @@ module _ (f e : ℕ) (t : Table) (sd : sound t ≡ true) (hf : f < 2 ^ 8) (he : 
   bounded-add : (g s time : ℕ) (ext : List ℕ) → g < 2 ^ 16 → s < 2 ^ 8 → Leaves (addOut (sceneKey f e g s) time ext v)
   bounded-add g s time ext hg hs =
       let key = sceneKey f e g s in
+      let x = entryOf key time ext in
       cond-elim Leaves (placeFor f (wordOf key) v)
-      (λ q. bounded-invalidated (Scene key) (written (entryOf key time ext) v) (bounded-upsert f (entryOf key time ext) v (key-fabric f e g s hf he hg hs) share q b))
-      (λ _. b)
+      (λ q. bounded-invalidated (Scene key) (written x v) (bounded-upsert f x v (key-fabric f e g s hf he hg hs) share q b)) (λ _. b)
 
   passed-bounded : (c : Command) → CommandInRange c → gateOf f e c ≡ success → Leaves (sees (command f e c) t)
   unfolding remembered
@@ -166,14 +169,16 @@ module _ (f e : ℕ) (t : Table) (sd : sound t ≡ true) (hf : f < 2 ^ 8) (he : 
       ]) refl
 
 -- what any call but a load leaves
-step-bounded : (c : Call) (t : Table) → InRange c → brings c ≡ false → sound t ≡ true → shareIn (viewOf t) ≡ true → Bounded (viewOf t) → Bounded (sees c t .1)
+step-bounded : (c : Call) (t : Table) → InRange c → brings c ≡ false → sound t ≡ true → shareIn (viewOf t) ≡ true → Bounded (viewOf t)
+    → Bounded (sees c t .1)
 step-bounded (command f e c) t h n sd share b = command-bounded f e t sd (h .0) (h .1) share b c (h .2)
 step-bounded (notice e) t h n sd share b =
     subst (λ (o : Seen). Bounded (o .1)) (sym (laws .events t sd .notice-acts e h)) (bounded-invalidated (Endpoint e) (viewOf t) b)
 step-bounded (removal f) t h n sd share b =
     (elim (eqb f 0) as (λ x. eqb f 0 ≡ x → Bounded (sees (removal f) t .1)) [
       | true ↦ λ z.
-          subst (λ (k : ℕ). Bounded (sees (removal k) t .1)) (sym (eqb-true f 0 z)) (subst (λ (o : Seen). Bounded (o .1)) (sym (laws .events t sd .removal-refused)) b)
+          subst (λ (k : ℕ). Bounded (sees (removal k) t .1)) (sym (eqb-true f 0 z))
+          (subst (λ (o : Seen). Bounded (o .1)) (sym (laws .events t sd .removal-refused)) b)
       | false ↦ λ z.
           subst (λ (o : Seen). Bounded (o .1)) (sym (laws .events t sd .removal-acts f h (eqb-false f 0 z)))
           (λ g. omega (arith, count-keep-le (mine g) (λ x. not (mine f x)) (viewOf t .entries), b g))
@@ -241,6 +246,9 @@ module _ (f : ℕ) where
 abbrev Other : ℕ → Type 0
 Other n = n ≡ insufficientSpace → ⊥
 
+no : (n : ℕ) → eqb n insufficientSpace ≡ false → Other n
+no n e = eqb-false n insufficientSpace e
+
 -- one of a list without 0x89
 among-other : (ms : List ℕ) (n : ℕ) → Among ms n → oneOf ms insufficientSpace ≡ false → Other n
 among-other ms n a e z = false≢true (sym e ∙ subst (λ (k : ℕ). oneOf ms k ≡ true) z a)
@@ -251,7 +259,8 @@ short len e z = absurd (omega (arith, ap (λ (b : Bool). cond b insufficientSpac
 
 module _ (f e : ℕ) (t : Table) (sd : sound t ≡ true) (hf : f < 2 ^ 8) (he : e < 2 ^ 16) where
   -- refused by the request alone, or by the table
-  gated : (c : Command) → CommandInRange c → Other (gateOf f e c) → (gateOf f e c ≡ success → Full f (sees (command f e c) t)) → Full f (sees (command f e c) t)
+  gated : (c : Command) → CommandInRange c → Other (gateOf f e c) → (gateOf f e c ≡ success → Full f (sees (command f e c) t))
+      → Full f (sees (command f e c) t)
   gated c h n y =
       (elim (eqb (gateOf f e c) 0) as (λ x. eqb (gateOf f e c) 0 ≡ x → Full f (sees (command f e c) t)) [
         | true ↦ λ z. y (eqb-true (gateOf f e c) 0 z)
@@ -265,28 +274,33 @@ module _ (f e : ℕ) (t : Table) (sd : sound t ≡ true) (hf : f < 2 ^ 8) (he : 
   unfolding step does
   full (add g s time m pairs ext) h n =
       gated (add g s time m pairs ext) h
-      (add-gate-is Other (λ z. omega arith) (λ z. omega arith) (λ z. omega arith) (λ z. omega arith) (λ z. omega arith) m (λ z. omega arith)
-      (sceneKey f e g s) time pairs (length ext) (short (length ext) n))
-      (λ z. subst (Full f) (sym (laws .commands f e t sd hf he .add-acts g s time m pairs ext h z)) (upsert-full f (wordOf (sceneKey f e g s)) (viewOf t) _))
+      (add-gate-is Other (no 0 refl) (no 1 refl) (no 0x87 refl) (no 0x85 refl) (no 2 refl) m (no 7 refl) (sceneKey f e g s) time pairs (length ext) (short (length ext) n))
+      (λ z.
+      subst (Full f) (sym (laws .commands f e t sd hf he .add-acts g s time m pairs ext h z))
+      (upsert-full f (wordOf (sceneKey f e g s)) (viewOf t) _))
   full (addRead g s time m pairs ext) h n =
       gated (addRead g s time m pairs ext) h
-      (addRead-gate-is Other (λ z. omega arith) (λ z. omega arith) (λ z. omega arith) (λ z. omega arith) (λ z. omega arith) m (λ z. omega arith)
-      (λ z. omega arith) (sceneKey f e g s) time pairs ext (short (length ext) n))
-      (λ z. subst (Full f) (sym (laws .commands f e t sd hf he .addRead-acts g s time m pairs ext h z)) (upsert-full f (wordOf (sceneKey f e g s)) (viewOf t) _))
+      (addRead-gate-is Other (no 0 refl) (no 1 refl) (no 0x87 refl) (no 0x85 refl) (no 2 refl) m (no 7 refl) (no 11 refl) (sceneKey f e g s) time pairs ext (short (length ext) n))
+      (λ z.
+      subst (Full f) (sym (laws .commands f e t sd hf he .addRead-acts g s time m pairs ext h z))
+      (upsert-full f (wordOf (sceneKey f e g s)) (viewOf t) _))
   full (store g s m captured) h n =
       gated (store g s m captured) h
-      (store-gate-is Other (λ z. omega arith) (λ z. omega arith) (λ z. omega arith) (λ z. omega arith) (λ z. omega arith) m (λ z. omega arith)
-      (sceneKey f e g s) (length captured))
-      (λ z. subst (Full f) (sym (laws .commands f e t sd hf he .store-acts g s m captured h z)) (upsert-full f (wordOf (sceneKey f e g s)) (viewOf t) _))
+      (store-gate-is Other (no 0 refl) (no 1 refl) (no 0x87 refl) (no 0x85 refl) (no 2 refl) m (no 3 refl) (sceneKey f e g s) (length captured))
+      (λ z.
+      subst (Full f) (sym (laws .commands f e t sd hf he .store-acts g s m captured h z))
+      (upsert-full f (wordOf (sceneKey f e g s)) (viewOf t) _))
   full (copy mode g s k r m n′) h n =
       gated (copy mode g s k r m n′) h
-      (copy-gate-is Other (λ z. omega arith) (λ z. omega arith) (λ z. omega arith) (λ z. omega arith) (λ z. omega arith) m (copyRequest f e mode g s k r) n′)
+      (copy-gate-is Other (no 0 refl) (no 1 refl) (no 0x87 refl) (no 0x85 refl) (no 2 refl) m (copyRequest f e mode g s k r) n′)
       (λ z.
       subst (Full f) (sym (laws .commands f e t sd hf he .copy-acts mode g s k r m n′ h z))
       (cond-elim (Full f) (eqb (roomIn f (viewOf t)) 0) (λ q _. room-full f (viewOf t) (eqb-true (roomIn f (viewOf t)) 0 q))
       (λ _. copy-full f (scopeOf f e mode k r) (map (target f e mode k r) (sources f e mode g s (viewOf t))) (viewOf t))))
-  full (view g s m) h n = never (view g s m) (among-other (0 ∷ 1 ∷ 2 ∷ 6 ∷ 0x85 ∷ 0x87 ∷ 0x8B ∷ []) _ (view-numbers (sceneKey f e g s) m t) refl)
-  full (remove g s m) h n = never (remove g s m) (among-other (0 ∷ 1 ∷ 2 ∷ 6 ∷ 0x85 ∷ 0x87 ∷ 0x8B ∷ []) _ (remove-numbers (sceneKey f e g s) m t) refl)
+  full (view g s m) h n =
+      never (view g s m) (among-other (0 ∷ 1 ∷ 2 ∷ 6 ∷ 0x85 ∷ 0x87 ∷ 0x8B ∷ []) _ (view-numbers (sceneKey f e g s) m t) refl)
+  full (remove g s m) h n =
+      never (remove g s m) (among-other (0 ∷ 1 ∷ 2 ∷ 6 ∷ 0x85 ∷ 0x87 ∷ 0x8B ∷ []) _ (remove-numbers (sceneKey f e g s) m t) refl)
   full (removeAll g m) h n = never (removeAll g m) (among-other (0 ∷ 1 ∷ 2 ∷ 6 ∷ 0x85 ∷ []) _ (removeAll-numbers (groupKey f e g) m t) refl)
   full (recall g s m o a) h n =
       let key = sceneKey f e g s in

@@ -1,5 +1,5 @@
--- Nearby readings of demand 3 in share mode, each with a counterexample: places that are all free ones, also in the fourth matter; places that
--- are cut; and one more place after every remove. Assumes nothing.
+-- Nearby readings in share mode, each with a counterexample. Of demand 3: places that are all free ones, also in the fourth matter; places that
+-- are cut; one more place after every remove. Of the two bounds: a load, a fabric at its share, long fields. Assumes nothing.
 use Prim.Native.Nat.{ℕ, zero, suc, _+_, _-_, _/_, _%_, _≤_, _<_, min}
 use native.Mathlib.Omega.{arith}
 use mathlib.Core.Path.{_≡_, refl, sym, ap, ap₂, _∙_, subst₂}
@@ -7,9 +7,9 @@ use mathlib.Core.Bool.{true, false, cond, _&&_, _||_}
 use mathlib.Core.List.{List, [], _∷_, map, List·Permᴰ, List·Permᴰ·nil, Permᴰ·refl}
 use mathlib.Core.Option.{none, Option·map}
 use lib.Dec.{eqb, ltb}
-use lib.ListN.{length}
+use lib.ListN.{length, replicate}
 use borrow.Author.Tests.{lt-ltb, ne-eqb}
-use Rattle.words.specs.Constants.{success, maxRemaining}
+use Rattle.words.specs.Constants.{success, insufficientSpace, maxRemaining}
 use Rattle.words.specs.Words.{fabricOf}
 use Rattle.words.specs.Below.{positions}
 use Rattle.words.proofs.Tests.{and-true}
@@ -24,8 +24,9 @@ use Rattle.state.proofs.Capacity.{places-free}
 use Rattle.scenes.proofs.Computing.{soundness}
 use Rattle.image_load.proofs.Computing.{loading}
 use Rattle.observation.specs.Lists.{bit, count, find, keep}
-use Rattle.observation.specs.Calls.{remove, command, load, answer, next, sceneKey, InRange}
+use Rattle.observation.specs.Calls.{Command, add, remove, command, load, answer, next, sceneKey, InRange}
 use Rattle.observation.specs.Equivalence.{Reached, empty, after, Equivalent, Agree, keyIs, mine, ofFabric, seen, placesOf, scenesOf, currentOf, recordFits}
+use Rattle.observation.specs.Share.{share, scenesUsed, longFields, wantsPlace}
 use Rattle.observation.proofs.Lists.{found, has}
 use Rattle.observation.proofs.Lookups.{entryOf}
 use Rattle.observation.proofs.Changes.{viewOf, freeIn, usedIn, roomIn, placesIn, placeFor, written, invalidated}
@@ -109,7 +110,8 @@ used-same f s t p =
 places-by-free : (f : ℕ) (s t : Table) → OneKind s t → free s ≡ free t → usedIn f (viewOf s) ≡ usedIn f (viewOf t) → placesOf f s ≡ placesOf f t
 unfolding viewOf placesIn roomIn
 places-by-free f s t z e u =
-    let free-in : freeIn (viewOf s) ≡ freeIn (viewOf t) = ap (λ (n : ℕ). s .state .size - n) (entries-length s) ∙ e ∙ sym (ap (λ (n : ℕ). t .state .size - n) (entries-length t)) in
+    let at : (r : Table) → freeIn (viewOf r) ≡ free r = λ r. ap (λ (n : ℕ). r .state .size - n) (entries-length r) in
+    let free-in : freeIn (viewOf s) ≡ freeIn (viewOf t) = at s ∙ e ∙ sym (at t) in
     places f s ∙ (λ i. cond (z .mode i) (min ((z .size i - 1) / 2 - u i) (free-in i)) (free-in i)) ∙ sym (places f t)
 
 pub free-enough : (s t : Table) → Reached s → Reached t → OneKind s t → AgreeByFree 1 s t → Equivalent 1 s t
@@ -178,9 +180,16 @@ aboveShare = next (load sceneImage) (shared 3)
 above-reached : Reached aboveShare
 above-reached = after (load sceneImage) refl three-reached
 
-removed-above : (answer (removes 1 1 2) aboveShare .status ≡ success) × (placesOf 1 aboveShare ≡ 0) × (placesOf 1 (next (removes 1 1 2) aboveShare) ≡ 0)
+removed-above :
+    (answer (removes 1 1 2) aboveShare .status ≡ success)
+    × (placesOf 1 aboveShare ≡ 0)
+    × (placesOf 1 (next (removes 1 1 2) aboveShare) ≡ 0)
 unfolding running loading
 removed-above = (refl, refl, refl)
+
+above-bound : (shareMode (aboveShare .state) ≡ true) × (scenesUsed 1 aboveShare ≡ 2) × (share aboveShare ≡ 1)
+unfolding running loading
+above-bound = (refl, refl, refl)
 
 abbrev OneMorePlace : Type 0
 OneMorePlace =
@@ -191,6 +200,28 @@ OneMorePlace =
 pub remove-not-one-more : OneMorePlace → ⊥
 remove-not-one-more every =
     omega (arith, every 1 1 0 2 aboveShare above-reached (removed-above .0), removed-above .1, removed-above .2)
+
+-- ---- what the two bounds ask for is needed
+
+-- "no fabric has more than its share", a load or not: here it has two scenes, and its share is one
+pub bound-not-loaded : Reached aboveShare × (shareMode (aboveShare .state) ≡ true) × (scenesUsed 1 aboveShare ≡ 2) × (share aboveShare ≡ 1)
+bound-not-loaded = (above-reached, above-bound .0, above-bound .1, above-bound .2)
+
+-- "a place is wanting in a full table alone", below the share or not: at its share the fabric is refused, with two places free
+abbrev sixth : Command
+sixth = add 0 6 5 Yes [] []
+
+pub full-not-at-share : (wantsPlace sixth (answer (command 1 1 sixth) alone) ≡ true) × (free alone ≡ 2)
+unfolding running
+full-not-at-share = (refl, refl)
+
+-- "0x89 below the share means a full table", long fields or not: an empty table answers it to 129 field bytes
+abbrev long : Command
+long = add 0 6 5 Yes [] (replicate 129 0)
+
+pub full-not-by-fields : (answer (command 1 1 long) (shared 3) .status ≡ insufficientSpace) × (longFields long ≡ true) × (free (shared 3) ≡ 3)
+unfolding running
+full-not-by-fields = (refl, refl, refl)
 
 -- ---- places that are cut as a remaining capacity is
 
@@ -216,22 +247,24 @@ module _ (g : ℕ) (g1 : 1 ≤ g) (g255 : g ≤ 255) where
       let v = viewOf t in
       let k = fresh-key g 1025 (v .entries) (omega (arith, i .inv .room, i .inv .small)) in
       let e = k .0 in
-      let fits : InRange (command g e (backward.adding laws g g1 g255)) = (omega arith, omega (arith, k .1), (omega arith, omega arith, omega arith, refl, refl)) in
+      let c = command g e (backward.adding laws g g1 g255) in
+      let fits : InRange c = (omega arith, omega (arith, k .1), (omega arith, omega arith, omega arith, refl, refl)) in
       let x = entryOf (sceneKey g e 0 1) 0 [] in
       let key = keyIs (probe g e) in
       let lost : find key (v .entries) ≡ none = none-find key (v .entries) (k .2) in
       let new : has key (v .entries) ≡ false = ap found lost in
       let q : placeFor g (probe g e) v ≡ true = ap₂ _||_ new (lt-ltb 0 (placesIn g v) more) in
-      let a : sees (command g e (backward.adding laws g g1 g255)) t ≡ (done true, invalidated (Scene (sceneKey g e 0 1)) (written x v)) = rw q at (backward.adds laws g g1 g255 t i e fits) in
-      let u = next (command g e (backward.adding laws g g1 g255)) t in (
+      let a : sees c t ≡ (done true, invalidated (Scene (sceneKey g e 0 1)) (written x v)) = rw q at (backward.adds laws g g1 g255 t i e fits) in
+      let u = next c t in (
         u,
         record {
-          reached = after (command g e (backward.adding laws g g1 g255)) fits r;
+          reached = after c fits r;
           kind = kind-of t u (ap (λ (o : Seen). o .1 .size) a) (ap (λ (o : Seen). o .1 .modes) a);
           entries = ap (λ (o : Seen). length (o .1 .entries)) a ∙ omega (arith, length-put-has key x (v .entries), ap bit new);
           own = omega (arith, backward.added laws g g1 g255 t i e fits new (lt-ltb 0 (placesIn g v) more));
           others = λ f n.
-              let out : mine f x ≡ false = ne-eqb (fabricOf (x .key)) f (λ z. n (sym z ∙ key-fabric g e 0 1 (omega arith) (fits .1) (omega arith) (omega arith))) in
+              let hers : fabricOf (x .key) ≡ g = key-fabric g e 0 1 (omega arith) (fits .1) (omega arith) (omega arith) in
+              let out : mine f x ≡ false = ne-eqb (fabricOf (x .key)) f (λ z. n (sym z ∙ hers)) in
               ap (λ (o : Seen). usedIn f (o .1)) a ∙ omega (arith, count-put (mine f) key x (v .entries), ap (opt (mine f)) lost, ap bit out);
           records = ap (λ (o : Seen). o .1 .records) a ∙ ap (map (cleared (Scene (sceneKey g e 0 1)))) none-kept;
         },
@@ -310,13 +343,14 @@ no-records t r e = (e, sym (records-length t (reached-standing laws r .intact)) 
 cut-alike : (m n : ℕ) (s t : Table) → Taken m s → Taken n t → usedIn 1 (viewOf s) ≡ 0 → usedIn 1 (viewOf t) ≡ 0
     → min (min 254 (509 - m)) maxRemaining ≡ min (min 254 (509 - n)) maxRemaining → CutAlike s t
 cut-alike m n s t j k u w e =
+    let cut : ℕ → ℕ = λ l. min l maxRemaining in
     let rs = no-records s (j .reached) (j .records) in
     let rt = no-records t (k .reached) (k .records) in
     record {
       reached = (j .reached, k .reached);
       kind = one-kind (j .size ∙ sym (k .size)) (j .shared ∙ sym (k .shared));
       shared = j .shared;
-      places = ap (λ (l : ℕ). min l maxRemaining) (places 1 s ∙ left-for m 1 s j u) ∙ e ∙ sym (ap (λ (l : ℕ). min l maxRemaining) (places 1 t ∙ left-for n 1 t k w));
+      places = ap cut (places 1 s ∙ left-for m 1 s j u) ∙ e ∙ sym (ap cut (places 1 t ∙ left-for n 1 t k w));
       scenes = subst₂ List·Permᴰ (sym (no-scenes s u)) (sym (no-scenes t w)) List·Permᴰ·nil;
       recorded = ap (λ (l : List ℕ). Option·map seen (find (ofFabric 1) l)) (rs .0 ∙ sym (rt .0));
       fits = ap₂ ltb (rs .1 ∙ sym (rt .1)) (j .size ∙ sym (k .size));
@@ -325,7 +359,8 @@ cut-alike m n s t j k u w e =
 -- others take 254 and 1 places, then one more: the fabric has 254 left, then 253
 pub places-not-cut-shared : (s : Table) × (t : Table) × CutAlike s t × (Equivalent 1 s t → ⊥)
 places-not-cut-shared =
-    let a = fill 2 (omega arith) (omega arith) 254 (shared 509) (none-taken .reached) (none-taken .records) (omega (arith, left-for 0 2 (shared 509) none-taken (start-used 2))) in
+    let ps = left-for 0 2 (shared 509) none-taken (start-used 2) in
+    let a = fill 2 (omega arith) (omega arith) 254 (shared 509) (none-taken .reached) (none-taken .records) (omega (arith, ps)) in
     let ka = taken-more 2 254 0 (shared 509) (a .0) none-taken (a .1) in
     let ua : (f : ℕ) → (f ≡ 2 → ⊥) → usedIn f (viewOf (a .0)) ≡ 0 = λ f n. a .1 .others f n ∙ start-used f in
     let pa : placesIn 3 (viewOf (a .0)) ≡ 254 = left-for 254 3 (a .0) ka (ua 3 (λ z. omega arith)) in

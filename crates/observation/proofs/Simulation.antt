@@ -138,12 +138,14 @@ module _ (f : ℕ) (v w : View) (a : Sim f v w) where
       }
 
   -- a write has its place: over the entry with its key, or as one more
-  pub sim-put : (x : SceneEntry) → fabricOf (x .key) ≡ f → Inv v → Inv w → (has (keyIs (x .key)) (v .entries) ≡ false → 0 < placesIn f v) → Sim f (written x v) (written x w)
+  pub sim-put : (x : SceneEntry) → fabricOf (x .key) ≡ f → Inv v → Inv w → (has (keyIs (x .key)) (v .entries) ≡ false → 0 < placesIn f v)
+      → Sim f (written x v) (written x w)
   sim-put x h i j place =
       let k = keyIs (x .key) in
       let g = j .good in
       let own : mine f x ≡ true = eq-eqb (fabricOf (x .key)) f h in
-      let place′ : has k (w .entries) ≡ false → 0 < placesIn f w = λ n. subst (λ (m : ℕ). 0 < m) (a .places) (place (ap found (sim-find (x .key) h g) ∙ n)) in
+      let place′ : has k (w .entries) ≡ false → 0 < placesIn f w =
+      λ n. subst (λ (m : ℕ). 0 < m) (a .places) (place (ap found (sim-find (x .key) h g) ∙ n)) in
       sim-entries (put k x (v .entries)) (put k x (w .entries))
       (λ q z. omega (arith, count-put q k x (v .entries), count-put q k x (w .entries), a .scenes q z, ap (opt q) (sim-find (x .key) h g)))
       (put-changed x v h i place) (put-changed x w h j place′)
@@ -157,7 +159,11 @@ module _ (f : ℕ) (v w : View) (a : Sim f v w) where
       → Sim f (entriesSet (takeOut (keyIs k) (v .entries)) v) (entriesSet (takeOut (keyIs k) (w .entries)) w)
   sim-takeOut k h i j =
       let changed : (u : View) → Inv u → Changed f (takeOut (keyIs k) (u .entries)) u = λ u s.
-      record { own = length-takeOut (mine f) (keyIs k) (key-within f k h) (u .entries); before = s .room; after = omega (arith, s .room, less-takeOut (keyIs k) (u .entries)) } in
+      record {
+        own = length-takeOut (mine f) (keyIs k) (key-within f k h) (u .entries);
+        before = s .room;
+        after = omega (arith, s .room, less-takeOut (keyIs k) (u .entries));
+      } in
       sim-entries (takeOut (keyIs k) (v .entries)) (takeOut (keyIs k) (w .entries))
       (λ q z. omega (arith, count-takeOut q (keyIs k) (v .entries), count-takeOut q (keyIs k) (w .entries), a .scenes q z, ap (opt q) (sim-find k h (j .good))))
       (changed v i) (changed w j) (λ n. omega (arith, n, count-takeOut (mine f) (keyIs k) (v .entries)))

@@ -107,7 +107,7 @@ impl ScenesState {
         self.modes % 2 == Modes::SHARE
     }
 
-    // Whether one more entry of a fabric fits: a place is free, of which in share mode the fabric has one.
+    // Whether one more entry of a fabric fits: in share mode if the fabric has room, else if a place is free.
     fn may_append(self, keys: &[u64], fabric: u8) -> bool
         requires { ⌜ self .entries ≤ length (now keys) ⌝ }
         ensures { λ r. ⌜ r ≡ mayAppend self (now (keys .entry)) fabric ⌝ }
