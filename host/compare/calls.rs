@@ -15,7 +15,8 @@ of 15 passes; the sides take turns. The table is in the cache.
 Ours: the call as a host makes it through the static library, with the test that the whole table is sound. A recall is two calls; a view
 hands over position and length of the fields, which are then copied. The Rust: the handler of the published scenes.rs, compiled with the driver,
 without a soundness test. Neither side has TLV but in a save and a load, and for the walk of a recalled scene's fields, which ends at once here.
-Left out of the other calls on both sides: saving (the Rust's storage writes nothing), the host's answers (always yes), applying.
+An add in share mode is ours; the Rust, which has no such mode, adds as ever. Left out of the other calls on both sides: saving (the Rust's
+storage writes nothing), the host's answers (always yes), applying.
 
 A save writes the image into a buffer of 171 N + 8 bytes, a load takes it from there into a table that holds the same. The Rust's are the
 handler's own save and startup over a storage that is such a buffer.
@@ -43,6 +44,7 @@ pub fn rows<S: Side>() -> Vec<Row<S>> {
     let image = |name, writes, call| Row { name, writes, image: true, call };
     vec![
         row("add, new", true, |s: &mut S, p: Plan| s.add(p.absent(), Fields)),
+        row("add, new, share mode", true, |s, p| s.add_shared(p.absent(), Fields)),
         row("add, overwrite", true, |s, p| s.add(p.middle(), Fields)),
         row("store", true, |s, p| s.store(p.middle())),
         row("view, first", false, |s, _| s.view(entry(0))),

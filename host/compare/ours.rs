@@ -1,6 +1,7 @@
 //! The exported calls, each with its soundness test. A recall is its two calls.
 use crate::driver::{self, Fields};
 use crate::ffi::{self, Lent, LentMut, Outcome, State};
+use crate::requests::modes::SHARE;
 use crate::requests::{CopyRequest, GroupKey, SceneKey};
 use crate::rows::{image_max, Side, FIELDS};
 
@@ -56,6 +57,11 @@ impl Side for Ours {
     fn add(&mut self, key: SceneKey, fields: Fields) -> u8 {
         let (state, lent) = self.lend();
         let done = driver::add(state, lent, key, fields);
+        self.done(done)
+    }
+    fn add_shared(&mut self, key: SceneKey, fields: Fields) -> u8 {
+        let (state, lent) = self.lend();
+        let done = driver::add(State { modes: SHARE, ..state }, lent, key, fields);
         self.done(done)
     }
     fn store(&mut self, key: SceneKey) -> u8 {

@@ -18,6 +18,10 @@ pub const fn image_max(places: usize) -> usize {
 /// A table, ours or the published one. A call answers its status.
 pub trait Side {
     fn add(&mut self, key: SceneKey, fields: Fields) -> u8;
+    /// An add to a table in share mode, which the published one does not have.
+    fn add_shared(&mut self, key: SceneKey, fields: Fields) -> u8 {
+        self.add(key, fields)
+    }
     fn store(&mut self, key: SceneKey) -> u8;
     fn view(&mut self, key: SceneKey) -> u8;
     /// A view, with the field bytes copied to a buffer.
