@@ -35,7 +35,7 @@ use Rattle.image_save.specs.Saving.{Saved, saveImage}
 use Rattle.image_reader.specs.Image.{Image, imageIn}
 use Rattle.image_load.specs.Loading.{restored, loadTlv, loadImage}
 use Rattle.add_read.specs.Adding.{addSceneRead}
-use Rattle.observation.specs.Refusals.{Outward, add, addRead, store, remove, removeAll, recall, lookup, view, copy, membership, info, notice, removal, reset, start, failSafeEvent, save, load, Answered, result, scene, list, row, image, answer, outward}
+use Rattle.observation.specs.Refusals.{add, addRead, store, remove, removeAll, recall, lookup, view, copy, membership, info, notice, removal, reset, start, failSafeEvent, save, load, Answered, result, scene, list, row, image, answer, outward}
 use Rattle.observation.specs.Share.{headOf, ModesStay, ModesStayRun}
 use Rattle.observation.proofs.Numbers.{either}
 use Rattle.observation.proofs.Refusals.{left, runs}

@@ -23,6 +23,7 @@ room-less a u n l h = omega arith
 room-after : (a u u′ m k m′ k′ : ℕ) → m′ + u′ ≡ m + u → k′ + u′ ≡ k + u → min (a - u) m ≡ min (a - u) k → min (a - u′) m′ ≡ min (a - u′) k′
 room-after a u u′ m k m′ k′ e₁ e₂ h = omega arith
 
+-- a scene or room afterwards, and no scene out of nothing: then there was one or the other before
 alive-after : (a u u′ m m′ : ℕ) → m′ + u′ ≡ m + u → (0 < u′ → 0 < u + min (a - u) m) → 0 < u′ + min (a - u′) m′ → 0 < u + min (a - u) m
 alive-after a u zero m m′ e al h = omega arith
 alive-after a u (suc n) m m′ e al h = al (omega arith)

@@ -20,7 +20,7 @@ use Rattle.commands.specs.declared.Applied.{Applied}
 use Rattle.reads.specs.declared.Transition.{Transition}
 use Rattle.observation.specs.Lists.{bit, count, find, keep}
 use Rattle.observation.specs.Calls.{Command, view, remove, removeAll, store, recall, membership, info, Answer, sceneKey, groupKey, CommandInRange}
-use Rattle.observation.specs.Equivalence.{keyIs, Same, wholeCopy, mine, seen}
+use Rattle.observation.specs.Equivalence.{keyIs, Same, wholeCopy, seen}
 use Rattle.observation.proofs.Lists.{found, has, takeOut, Often}
 use Rattle.observation.proofs.Lookups.{holds, entryOf}
 use Rattle.observation.proofs.Changes.{View, usedIn, currentIn, placeFor, entriesSet, written, invalidated, remembered}

@@ -263,8 +263,8 @@ module _ (g : ℕ) (g1 : 1 ≤ g) (g255 : g ≤ 255) where
           entries = ap (λ (o : Seen). length (o .1 .entries)) a ∙ omega (arith, length-put-has key x (v .entries), ap bit new);
           own = omega (arith, backward.added laws g g1 g255 t i e fits new (lt-ltb 0 (placesIn g v) more));
           others = λ f n.
-              let hers : fabricOf (x .key) ≡ g = key-fabric g e 0 1 (omega arith) (fits .1) (omega arith) (omega arith) in
-              let out : mine f x ≡ false = ne-eqb (fabricOf (x .key)) f (λ z. n (sym z ∙ hers)) in
+              let its : fabricOf (x .key) ≡ g = key-fabric g e 0 1 (omega arith) (fits .1) (omega arith) (omega arith) in
+              let out : mine f x ≡ false = ne-eqb (fabricOf (x .key)) f (λ z. n (sym z ∙ its)) in
               ap (λ (o : Seen). usedIn f (o .1)) a ∙ omega (arith, count-put (mine f) key x (v .entries), ap (opt (mine f)) lost, ap bit out);
           records = ap (λ (o : Seen). o .1 .records) a ∙ ap (map (cleared (Scene (sceneKey g e 0 1)))) none-kept;
         },
