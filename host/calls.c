@@ -33,7 +33,8 @@ static void writes(void) {
     EXPECT(scenes_table_add(&table, first, 1234567, NO, pairs, 2, ext, 3).status == SCENES_INVALID_COMMAND);
     EXPECT(scenes_table_add(&table, first, SCENES_MAX_TIME + 1, YES, pairs, 2, ext, 3).status == SCENES_CONSTRAINT_ERROR);
     EXPECT(scenes_table_add(&table, first, 0, YES, ext, 3, pairs, 2).status == SCENES_BAD_PAIR);
-    EXPECT(scenes_table_store(&table, second, YES, captured, 4).save);
+    struct scenes_stored stored = scenes_table_store(&table, second, YES, captured, 4);
+    EXPECT(stored.save && stored.compared == 1 && scenes_state_equal(stored.state, table.state));
     EXPECT(keys[1] == 0x3456789ABCDE && fields[SCENES_STRIDE] == 5 && memcmp(fields + SCENES_STRIDE + 1, captured, 4) == 0);
     EXPECT(scenes_table_recall(&table, first, YES, SCENES_APPLIED_NO).status == SCENES_APPLY_FAILED);
     EXPECT(scenes_table_recall(&table, first, SCENES_MEMBER_FAILED, SCENES_APPLIED_YES).status == SCENES_MEMBERSHIP_FAILED);
@@ -334,7 +335,7 @@ static uint8_t added_to(struct scenes_state *state, uint8_t fabric, uint8_t scen
 
 static uint8_t stored_in(struct scenes_state *state, uint8_t fabric, uint8_t scene) {
     static const uint8_t captured[] = {9};
-    struct scenes_outcome stored = scenes_store(*state, LENT_FIVE, scene_of(fabric, scene), YES, captured, 1);
+    struct scenes_stored stored = scenes_store(*state, LENT_FIVE, scene_of(fabric, scene), YES, captured, 1);
     *state = stored.state;
     return stored.status;
 }
@@ -393,6 +394,24 @@ static void modes(void) {
     share_mode();
 }
 
+/* How many key words a store compared: up to the first match, or all, and none at a refusal. The first finds none: 0 is no refusal. */
+static void compared(void) {
+    struct scenes_table five = scenes_table_new(FIVE, five_keys, five_times, five_fields, five_records);
+    for (uint8_t scene = 1; scene <= FIVE; scene++) {
+        struct scenes_stored stored = scenes_table_store(&five, scene_of(0x12, scene), YES, NULL, 0);
+        EXPECT(stored.status == SCENES_SUCCESS && stored.compared == (size_t)scene - 1);
+    }
+    for (uint8_t scene = 1; scene <= FIVE; scene++) {
+        EXPECT(scenes_table_store(&five, scene_of(0x12, scene), YES, NULL, 0).compared == scene);
+        EXPECT(scenes_table_store(&five, scene_of(0x12, scene), NO, NULL, 0).compared == 0);
+    }
+    struct scenes_stored full = scenes_table_store(&five, scene_of(0x12, 9), YES, NULL, 0);
+    EXPECT(full.status == SCENES_INSUFFICIENT_SPACE && !full.save && full.compared == 0);
+    five.state.size = SCENES_MAX_SCENES + 1;
+    full = scenes_table_store(&five, scene_of(0x12, 1), YES, NULL, 0);
+    EXPECT(full.status == SCENES_UNSOUND && !full.save && full.compared == 0);
+}
+
 static void lifecycle(void) {
     struct scenes_state before = table.state;
     EXPECT(scenes_table_fail_safe_commit(&table).status == SCENES_SUCCESS && scenes_table_fail_safe_expiry(&table).status == SCENES_SUCCESS);
@@ -442,6 +461,7 @@ int main(void) {
     pair_lists();
     adds_by_raw_fields();
     modes();
+    compared();
     lifecycle();
     words();
     texts();

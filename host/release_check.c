@@ -38,7 +38,7 @@ int main(void) {
     if (started.status != SCENES_SUCCESS || started.save || table.state.entries != 0 || table.state.recorded != 0 || table.state.dataver != 0)
         return failed("The table could not be started on a new chip.", started.status);
     for (uint8_t owner = OWNER; owner <= OTHER; owner++) {
-        struct scenes_outcome stored = scenes_table_store(&table, scene_of(owner), SCENES_MEMBER_YES, captured, sizeof captured);
+        struct scenes_stored stored = scenes_table_store(&table, scene_of(owner), SCENES_MEMBER_YES, captured, sizeof captured);
         if (stored.status != SCENES_SUCCESS || !stored.save || table.state.entries != owner || table.state.recorded != owner)
             return failed("A scene could not be stored.", stored.status);
     }

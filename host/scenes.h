@@ -15,7 +15,7 @@
  *     static uint32_t times[16];
  *     static uint8_t fields[16 * SCENES_STRIDE];
  *     struct scenes_table table = scenes_table_new(16, keys, times, fields, records);
- *     struct scenes_outcome stored = scenes_table_store(&table, key, SCENES_MEMBER_YES, captured, captured_len);
+ *     struct scenes_stored stored = scenes_table_store(&table, key, SCENES_MEMBER_YES, captured, captured_len);
  *     if (stored.save)
  *         ..
  *
@@ -54,7 +54,7 @@
 
 /* What this header was written for: it steps whenever a struct, an answer or a call of the header changes. A host that may meet another
  * library compares it with scenes_version() before any other call. Version 1 had none to ask for. */
-#define SCENES_VERSION 7
+#define SCENES_VERSION 8
 
 /* An answer that is dropped is warned of, since the head is in it. Pointers are not null, and no two of a call's arrays overlap. */
 #if (defined(__cplusplus) && __cplusplus >= 201703L) || (defined(__STDC_VERSION__) && __STDC_VERSION__ >= 202311L)
@@ -206,6 +206,15 @@ struct scenes_outcome {
     bool save;
 };
 
+/* What a store answers: `compared` tells the host how many key words were held against the wanted one, up to the first match or all. It is no
+ * part of the answer to a member. A refusal has 0, and so has the first store into an empty table: ask `status` whether it succeeded. */
+struct scenes_stored {
+    struct scenes_state state;
+    uint8_t status;
+    bool save;
+    size_t compared;
+};
+
 /* A scene's time, its position and how many field bytes it has: they stand from `fields + at * SCENES_STRIDE + 1` on. A refusal has time 0,
  * position SCENES_NO_POSITION and length 0. */
 struct scenes_scene_read {
@@ -296,6 +305,8 @@ SCENES_ASSERT(copy_request, sizeof(struct scenes_copy_request) == 14 && offsetof
                                 offsetof(struct scenes_copy_request, from) == 6 && offsetof(struct scenes_copy_request, to) == 10);
 SCENES_ASSERT(outcome, sizeof(struct scenes_outcome) == 40 && offsetof(struct scenes_outcome, status) == 32 &&
                            offsetof(struct scenes_outcome, save) == 33);
+SCENES_ASSERT(stored, sizeof(struct scenes_stored) == 48 && offsetof(struct scenes_stored, status) == 32 &&
+                          offsetof(struct scenes_stored, save) == 33 && offsetof(struct scenes_stored, compared) == 40);
 SCENES_ASSERT(scene_read, sizeof(struct scenes_scene_read) == 56 && offsetof(struct scenes_scene_read, status) == 32 &&
                               offsetof(struct scenes_scene_read, time) == 36 && offsetof(struct scenes_scene_read, at) == 40 &&
                               offsetof(struct scenes_scene_read, len) == 48);
@@ -343,8 +354,8 @@ SCENES_KEEP struct scenes_outcome scenes_add(SCENES_WRITE, struct scenes_key key
                                              size_t ext_len) SCENES_NONNULL;
 
 /* Stores captured bytes as a scene, which becomes the fabric's current one. Answers 6, 1, 0x87, 2 or 0x85, 3, 0x89, 0. */
-SCENES_KEEP struct scenes_outcome scenes_store(SCENES_WRITE, struct scenes_key key, uint8_t member,
-                                               const uint8_t *SCENES_RESTRICT captured, size_t captured_len) SCENES_NONNULL;
+SCENES_KEEP struct scenes_stored scenes_store(SCENES_WRITE, struct scenes_key key, uint8_t member,
+                                              const uint8_t *SCENES_RESTRICT captured, size_t captured_len) SCENES_NONNULL;
 
 /* A scene's time, position and length. Answers 6, 1, 0x87, 2 or 0x85, 0x8B, 0. */
 SCENES_KEEP struct scenes_scene_read scenes_view(SCENES_READ, struct scenes_key key, uint8_t member) SCENES_NONNULL;
@@ -553,10 +564,12 @@ SCENES_KEEP static inline struct scenes_outcome scenes_table_add_read(struct sce
                                                 scenes_bytes_or_none(ext, ext_len), ext_len));
 }
 
-SCENES_KEEP static inline struct scenes_outcome scenes_table_store(struct scenes_table *t, struct scenes_key key, uint8_t member,
-                                                                   const uint8_t *captured, size_t captured_len) {
-    return scenes_table_keep(
-        t, scenes_store(SCENES_LENT(t), key, member, scenes_bytes_or_none(captured, captured_len), captured_len));
+SCENES_KEEP static inline struct scenes_stored scenes_table_store(struct scenes_table *t, struct scenes_key key, uint8_t member,
+                                                                  const uint8_t *captured, size_t captured_len) {
+    struct scenes_stored stored =
+        scenes_store(SCENES_LENT(t), key, member, scenes_bytes_or_none(captured, captured_len), captured_len);
+    t->state = stored.state;
+    return stored;
 }
 
 SCENES_KEEP static inline struct scenes_scene_read scenes_table_view(const struct scenes_table *t, struct scenes_key key,

@@ -66,8 +66,9 @@ impl Side for Ours {
     }
     fn store(&mut self, key: SceneKey) -> u8 {
         let (state, lent) = self.lend();
-        let done = ffi::store(state, lent, key, YES, &FIELDS[..15]);
-        self.done(done)
+        let stored = ffi::store(state, lent, key, YES, &FIELDS[..15]);
+        self.now.state = stored.state;
+        stored.status
     }
     fn view(&mut self, key: SceneKey) -> u8 {
         ffi::view(self.now.state, self.lent(), key, YES).status

@@ -93,6 +93,9 @@ impl Plan {
     pub fn middle(self) -> SceneKey {
         entry(self.entries / 2)
     }
+    pub fn last(self) -> SceneKey {
+        entry(self.entries.saturating_sub(1))
+    }
     pub fn group(self) -> GroupKey {
         let SceneKey { fabric, endpoint, group, .. } = self.middle();
         GroupKey { fabric, endpoint, group }

@@ -94,6 +94,26 @@ pub fn our_answer(line: &str, answer: &str) -> String {
     words.join(" ")
 }
 
+/// The oracle's answer to a line, on a table with these counts, if our program wrote the same.
+fn same_answer<'a>(
+    line: &str,
+    before: &Counts,
+    oracle: &mut Lines<'a>,
+    ours: &mut Lines<'_>,
+) -> Result<&'a str, String> {
+    let refusal = oracle.take_refusal(line);
+    if refusal.is_some_and(|said| said != before.refused()) {
+        return Err(format!("no bytes: the oracle wrote {refusal:?}, where it was to refuse them and to change nothing"));
+    }
+    let answer = oracle.take().ok_or("the oracle wrote no answer")?;
+    let expected = our_answer(line, answer);
+    let ours_answer = ours.take().ok_or("our program wrote no answer")?;
+    if answer.starts_with('?') || expected != ours_answer {
+        return Err(format!("answers: oracle {expected:?}, ours {ours_answer:?}"));
+    }
+    Ok(answer)
+}
+
 /// Compares the answers to one script, and counts them.
 pub fn compare(
     script: &[String],
@@ -105,29 +125,16 @@ pub fn compare(
     let mut table: &[u8] = &[];
     tally.start(script);
     for (at, line) in script.iter().enumerate() {
-        let differ = |what: String| Err(Difference { at, what });
-        let refusal = oracle.take_refusal(line);
-        if refusal.is_some_and(|said| said != before.refused()) {
-            return differ(format!("no bytes: the oracle wrote {refusal:?}, where it was to refuse them and to change nothing"));
-        }
-        let Some(answer) = oracle.take() else {
-            return differ("the oracle wrote no answer".into());
-        };
-        let expected = our_answer(line, answer);
-        let Some(ours_answer) = ours.take() else {
-            return differ("our program wrote no answer".into());
-        };
-        if answer.starts_with('?') || expected != ours_answer {
-            return differ(format!("answers: oracle {expected:?}, ours {ours_answer:?}"));
-        }
+        let differ = |what: String| Difference { at, what };
+        let answer = same_answer(line, &before, oracle, ours).map_err(differ)?;
         let dumped = is_dumped(script, at);
         let dump = if dumped { oracle.take_dump() } else { &[] };
         if dumped && dump != ours.take_dump() {
-            return differ("tables".into());
+            return Err(differ("tables".into()));
         }
         let after = Counts::read(answer);
         if !is_raw(line) {
-            tally.count(&Call { line, answer, before, after, dump }, table);
+            tally.count(&Call { line, answer, before, after, dump }, table).map_err(differ)?;
         }
         (before, table) = (after, dump);
     }

@@ -10,6 +10,7 @@ mod random;
 mod reader;
 mod record;
 mod run;
+mod searches;
 mod shares;
 mod shrink;
 mod sizes;
@@ -156,6 +157,7 @@ impl Kind {
     /// What was met too rarely.
     fn missing(self, tally: &Tally) -> Vec<String> {
         let mut missing = tally.missing(WANTED);
+        missing.extend(tally.searches.missing(WANTED, self == Kind::Share));
         match self {
             Kind::Calls => missing.extend(tally.missing_cut(WANTED)),
             Kind::Images => missing.retain(|answer| answer.starts_with(['P', 'G'])),

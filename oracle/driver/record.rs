@@ -122,7 +122,7 @@ pub fn record(oracle: &str, seed: u64, stdin: &str, stdout: &str) -> Result<(), 
     let mut input = format!(
         "# {calls} calls on {} tables, chosen from the scripts of seed {seed} so that every answer of every call is met.\n\
          # Made by oracle/record. The answers in stdout are those of the published Rust, in the words of this program,\n\
-         # where a remaining capacity is at most 253.\n",
+         # where a remaining capacity is at most 253 and a store's line ends with its count of key words.\n",
         scripts.len()
     );
     for script in &scripts {

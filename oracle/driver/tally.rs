@@ -5,6 +5,7 @@ use crate::bounds::Bounds;
 use crate::fields::hex;
 use crate::images::{canonical, Entry, Record};
 use crate::run::{made, SHARE};
+use crate::searches::Searches;
 
 /// Entries, records and version behind an answer.
 #[derive(Clone, Copy, Default)]
@@ -176,6 +177,7 @@ pub struct Tally {
     others: BTreeMap<&'static str, u64>,
     size: usize,
     raw: bool,
+    pub searches: Searches,
     /// What was met in share mode, where that is asked for.
     pub bounds: Option<Bounds>,
 }
@@ -194,10 +196,11 @@ impl Tally {
         *self.others.entry(what).or_default() += 1;
     }
 
-    /// Counts a call on a table that was dumped before.
-    pub fn count(&mut self, call: &Call<'_>, table: &[u8]) {
+    /// Counts a call on a table that was dumped before. What the oracle told of a store must be what the dump says.
+    pub fn count(&mut self, call: &Call<'_>, table: &[u8]) -> Result<(), String> {
         if call.answer.ends_with(" NOSET") {
-            return self.other("recalls not compared: apply failed, but there was no set to apply");
+            self.other("recalls not compared: apply failed, but there was no set to apply");
+            return Ok(());
         }
         self.calls += 1;
         self.images += (call.letter() == "G") as u64;
@@ -209,6 +212,7 @@ impl Tally {
         if let Some(bounds) = &mut self.bounds {
             bounds.count(call, table);
         }
+        self.searches.count(call, self.size, table)
     }
 
     /// Adds and stores by the length of the bytes that they bring.
@@ -304,6 +308,7 @@ impl Tally {
         for (what, count) in &self.others {
             println!("  {what:<68} {count:>9}");
         }
+        self.searches.print();
         if let Some(bounds) = &self.bounds {
             bounds.print();
         }

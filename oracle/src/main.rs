@@ -7,6 +7,7 @@ mod harness;
 mod hosts;
 mod persist;
 mod script;
+mod search;
 mod share;
 mod sink;
 mod table;

@@ -32,6 +32,8 @@ pub struct Dump {
 
 pub trait Probe {
     fn dump(&self) -> Dump;
+    /// The position of the first entry of a key, from 0.
+    fn find_position(&self, fab: u8, ep: u16, group: u16, scene: u8) -> Option<usize>;
     /// The first entry of a key.
     fn find_entry(&self, fab: u8, ep: u16, group: u16, scene: u8) -> Option<Entry>;
     fn counts(&self) -> (usize, usize, u32);
@@ -76,12 +78,15 @@ macro_rules! info {
                 })
             }
 
-            fn find_entry(&self, fab: u8, ep: u16, group: u16, scene: u8) -> Option<$crate::probe::Entry> {
+            fn find_position(&self, fab: u8, ep: u16, group: u16, scene: u8) -> Option<usize> {
                 let key = (fab, ep, group, scene);
-                self.with(|inner| {
-                    let same = |e: &&SceneEntry<PM>| (e.fab_idx.get(), e.endpoint_id, e.group_id, e.scene_id) == key;
-                    inner.table.iter().find(same).map(probe_entry)
-                })
+                let same = |e: &SceneEntry<PM>| (e.fab_idx.get(), e.endpoint_id, e.group_id, e.scene_id) == key;
+                self.with(|inner| inner.table.iter().position(same))
+            }
+
+            fn find_entry(&self, fab: u8, ep: u16, group: u16, scene: u8) -> Option<$crate::probe::Entry> {
+                let position = self.find_position(fab, ep, group, scene)?;
+                Some(self.with(|inner| probe_entry(&inner.table[position])))
             }
 
             fn counts(&self) -> (usize, usize, u32) {

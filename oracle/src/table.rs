@@ -13,6 +13,7 @@ use crate::hosts::{Clusters, Ctx, Groups};
 use crate::persist::Kv;
 use crate::probe::{Dump, Entry, Probe};
 use crate::script::{Add, Address, Call, Copy, Override, Recall};
+use crate::search;
 use crate::share;
 use crate::sink::{self, Sink};
 use crate::tlv::{TLVBuilder, TLVElement, TLVTag, TLVWrite, TLVWriteParent};
@@ -472,6 +473,24 @@ impl<const N: usize> Table<N> {
             Call::Load(None) => self.load(&self.saved.borrow().clone()),
         }
     }
+
+    /// The answer of this table's Rust, with its save mark.
+    fn given(&self, call: &Call) -> Answer {
+        self.kv.writes.set(0);
+        self.notified.set(0);
+        let mut answer = self.call(call);
+        answer.save = self.kv.writes.get() > 0;
+        assert!(self.kv.writes.get() <= 1);
+        if answer.save {
+            // What was saved is the table as it now stands.
+            assert_eq!(self.kv.image.borrow().as_deref(), self.state.image().ok().as_deref());
+        }
+        if !matches!(call, Call::FabricRemoval(_)) {
+            // A command that saves reports the changed attribute, once; fabric removal does not.
+            assert_eq!(self.notified.get(), answer.save as u32);
+        }
+        answer
+    }
 }
 
 /// Document 02's number 10: two entries with one key, two records of one fabric, or scene 0 or 255 anywhere.
@@ -539,22 +558,11 @@ impl<const N: usize> AnyTable for Table<N> {
     }
 
     fn run(&self, call: &Call) -> Answer {
-        if self.shared && share::alone_refuses(call, N, &self.state) {
-            return self.refused_by_share(call);
-        }
-        self.kv.writes.set(0);
-        self.notified.set(0);
-        let mut answer = self.call(call);
-        answer.save = self.kv.writes.get() > 0;
-        assert!(self.kv.writes.get() <= 1);
-        if answer.save {
-            // What was saved is the table as it now stands.
-            assert_eq!(self.kv.image.borrow().as_deref(), self.state.image().ok().as_deref());
-        }
-        if !matches!(call, Call::FabricRemoval(_)) {
-            // A command that saves reports the changed attribute, once; fabric removal does not.
-            assert_eq!(self.notified.get(), answer.save as u32);
-        }
+        let held = search::held(call, &self.state);
+        let is_refused = self.shared && share::alone_refuses(call, N, &self.state);
+        let mut answer = if is_refused { self.refused_by_share(call) } else { self.given(call) };
+        // The answer line of a store ends with its count, at every status.
+        answer.values.extend(held.map(|held| search::told(held, &answer.status).to_string()));
         answer
     }
 }

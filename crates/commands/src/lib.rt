@@ -13,15 +13,18 @@ use words::SceneKey;
 use words::Slot;
 use words::Status;
 ghost use mathlib.Core.Path.{_≡_};
-ghost use mathlib.Core.Bool.{true};
+ghost use mathlib.Core.Bool.{true, false};
 ghost use mathlib.Core.List.{[], _∷_, _++_};
-ghost use Prim.Native.Nat.{_+_, _<_};
+ghost use Prim.Native.Nat.{_+_, _<_, _≤_};
 ghost use lib.ListN.{length, take};
 ghost use Rattle.words.specs.Constants.{endOfContainer, maxFields};
+ghost use Rattle.words.specs.Words.{wordOf};
+ghost use Rattle.slots.specs.Slots.{firstKey};
 ghost use Rattle.state.specs.Table.{tableOf, Room};
 ghost use Rattle.state.specs.Sound.{sound};
 ghost use Rattle.state.specs.Answer.{resultOf};
-ghost use Rattle.commands.specs.Commands.{addScene, priorTime, storeCaptured, storeScene, removeScene, removeAllScenes, recallScene};
+ghost use Rattle.commands.specs.Commands.{addScene, priorTime, storeCaptured, removeScene, removeAllScenes, recallScene};
+ghost use Rattle.commands.specs.Counted.{keysCompared, countedOf, counted, storeCounted};
 
 // The head of a table that is known to be sound.
 pub struct Commands {
@@ -32,6 +35,40 @@ pub struct Commands {
 pub enum Applied {
     Yes,
     Failed,
+}
+
+// What a store answers: as an outcome and, for the host alone, how many key words it held against the wanted one.
+#[repr(C)]
+pub struct Stored {
+    pub state: ScenesState,
+    pub status: u8,
+    pub save: bool,
+    pub compared: usize,
+}
+
+impl Stored {
+    // A refusal counts none.
+    pub fn refused(status: u8, state: ScenesState) -> Stored
+        ensures { λ r. ⌜ r ≡ record { status = status; save = false; state = state; compared = 0 } ⌝ }
+    {
+        Stored {
+            status,
+            save: false,
+            compared: 0,
+            state,
+        }
+    }
+}
+
+// How many of n key words were held against the wanted one: up to the first match, or all.
+fn keys_compared(found: Found, n: usize) -> usize
+    requires { ⌜ keysCompared found n ≤ n ⌝ }
+    ensures { λ r. ⌜ r ≡ keysCompared found n ⌝ }
+{
+    match found {
+        Found::At(at) => at + 1,
+        Found::Nothing => n,
+    }
 }
 
 // The time of the entry that was found, or 0.
@@ -99,29 +136,31 @@ impl Commands {
         state.upsert_scene(keys, times, fields, records, found, key, time, ext)
     }
 
-    // Stores captured bytes as a scene, and remembers it as the fabric's current one.
+    // Stores captured bytes as a scene, and remembers it as the fabric's current one. Whoever tested the table has found the scene.
     pub fn store_scene(
         self,
         keys: &mut [u64],
         times: &mut [u32],
         fields: &mut [u8],
         records: &mut [u64],
+        found: Found,
         key: SceneKey,
         member: Membership,
         captured: &[u8],
-    ) -> Outcome
+    ) -> Stored
         requires { ⌜ sound (tableOf (self .state) (now keys) (now times) (now fields) (now records)) ≡ true ⌝ }
+        requires { ⌜ found ≡ firstKey (now keys) (self .state .entries) (wordOf key) ⌝ }
         ensures { λ r.
             let before = tableOf (self .state) (now (keys .entry)) (now (times .entry)) (now (fields .entry)) (now (records .entry)) in
             let after = tableOf (r .state) (now (keys .exit)) (now (times .exit)) (now (fields .exit)) (now (records .exit)) in
-            ⌜ resultOf (r .status) (r .save) after ≡ storeScene key member (now (captured .entry)) before ⌝ }
+            ⌜ countedOf (resultOf (r .status) (r .save) after) (r .compared) ≡ storeCounted key member (now (captured .entry)) before ⌝ }
     {
         let state = self.state;
         let gate = requests::store_gate(key, member, Limits::MAX_EXT_FIELDS_LEN, captured.len());
         if gate != Status::SUCCESS {
-            return Outcome::unsaved(gate, state);
+            return Stored::refused(gate, state);
         }
-        self.store_captured(keys, times, fields, records, key, captured)
+        self.store_captured(keys, times, fields, records, found, key, captured)
     }
 
     // Stores captured bytes over the scene, or as a new one with time 0.
@@ -131,21 +170,22 @@ impl Commands {
         times: &mut [u32],
         fields: &mut [u8],
         records: &mut [u64],
+        found: Found,
         key: SceneKey,
         captured: &[u8],
-    ) -> Outcome
+    ) -> Stored
         requires { ⌜ Room (tableOf (self .state) (now keys) (now times) (now fields) (now records)) ⌝ }
+        requires { ⌜ found ≡ firstKey (now keys) (self .state .entries) (wordOf key) ⌝ }
         requires { ⌜ length (now captured) < maxFields ⌝ }
         ensures { λ r.
             let before = tableOf (self .state) (now (keys .entry)) (now (times .entry)) (now (fields .entry)) (now (records .entry)) in
             let after = tableOf (r .state) (now (keys .exit)) (now (times .exit)) (now (fields .exit)) (now (records .exit)) in
-            ⌜ resultOf (r .status) (r .save) after ≡ storeCaptured key (now (captured .entry)) before ⌝ }
+            let answered = countedOf (resultOf (r .status) (r .save) after) (r .compared) in
+            ⌜ answered ≡ counted key before (storeCaptured key (now (captured .entry)) before) ⌝ }
     {
         let mut scratch = [0u8; Limits::MAX_EXT_FIELDS_LEN];
         let len = end_capture(&mut scratch, captured);
         let before = self.state;
-        let n = before.entries;
-        let found = slots::find(keys, n, key.word());
         let time = prior_time(found, times);
         let done = before.upsert_scene(
             keys,
@@ -160,11 +200,12 @@ impl Commands {
         let status = done.status;
         let state = done.state;
         if status != Status::SUCCESS {
-            return Outcome::unsaved(status, state);
+            return Stored::refused(status, state);
         }
-        Outcome {
+        Stored {
             status: Status::SUCCESS,
             save: true,
+            compared: keys_compared(found, before.entries),
             state: state.remember_current(records, key),
         }
     }

@@ -186,6 +186,24 @@ fn query(
     }
 }
 
+// Store, without its count.
+fn store(
+    state: ScenesState,
+    keys: &mut [u64],
+    times: &mut [u32],
+    fields: &mut [u8],
+    records: &mut [u64],
+) -> Outcome {
+    let yes = Membership::Yes;
+    let done = ScenesHandler { state }.store_scene(keys, times, fields, records, key(), yes, b"");
+    let after = done.state;
+    Outcome {
+        status: done.status,
+        save: done.save,
+        state: after,
+    }
+}
+
 // Add, store, remove.
 fn scene_command(
     call: u8,
@@ -208,7 +226,7 @@ fn scene_command(
             b"",
             b"\x18",
         ),
-        1 => ScenesHandler { state }.store_scene(keys, times, fields, records, key(), yes, b""),
+        1 => store(state, keys, times, fields, records),
         _ => ScenesHandler { state }.remove_scene(keys, times, fields, records, key(), yes),
     }
 }

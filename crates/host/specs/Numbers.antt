@@ -10,7 +10,7 @@ use Rattle.reads.specs.declared.Transition.the-variants.{Stored, Given}
 
 -- the version of the interface: 1 had no version to ask for
 abbrev pub interfaceVersion : ℕ
-interfaceVersion = 7
+interfaceVersion = 8
 
 -- 1 is yes; at any other number the host could not apply the scene
 unfoldable pub appliedOf : ℕ → Applied

@@ -1,6 +1,7 @@
 // The calls of the scene table for hosts in C or Rust. Each is one call of the table; numbers stand for enums, and no reference
 // comes back. A lent slice is a pointer and a count of elements.
 use commands::Applied;
+use commands::Stored;
 use image_load::load_image;
 use image_save::ImageSaved;
 use image_save::save_image;
@@ -20,7 +21,8 @@ ghost use mathlib.Core.Path.{_≡_};
 ghost use Rattle.state.specs.Table.{tableOf, newState, newStateWith};
 ghost use Rattle.state.specs.Sound.{sound};
 ghost use Rattle.state.specs.Answer.{resultOf};
-ghost use Rattle.commands.specs.Commands.{addScene, storeScene, removeScene, removeAllScenes, recallScene};
+ghost use Rattle.commands.specs.Commands.{addScene, removeScene, removeAllScenes, recallScene};
+ghost use Rattle.commands.specs.Counted.{countedOf, storeCounted};
 ghost use Rattle.copies.specs.Copy.{copyScene};
 ghost use Rattle.reads.specs.Reads.{viewScene, recallLookup, listedOf, getSceneMembership, readFabricSceneInfo};
 ghost use Rattle.lifecycle.specs.Lifecycle.{scenableAttributeChanged, removeForFabric, factoryReset, startup, failSafe};
@@ -41,7 +43,7 @@ pub struct FieldBytes {
 pub struct Interface;
 
 impl Interface {
-    pub const VERSION: u32 = 7;
+    pub const VERSION: u32 = 8;
 }
 
 // Whether the host applied a recalled scene: 1 is yes, any other number is no.
@@ -144,7 +146,7 @@ pub extern "C" fn scenes_add(
     )
 }
 
-// Stores captured bytes as a scene, which becomes the fabric's current one.
+// Stores captured bytes as a scene, which becomes the fabric's current one, and counts the key words that it compared.
 #[no_mangle]
 pub extern "C" fn scenes_store(
     state: ScenesState,
@@ -155,11 +157,11 @@ pub extern "C" fn scenes_store(
     key: SceneKey,
     member: u8,
     captured: &[u8],
-) -> Outcome
+) -> Stored
     ensures { λ r.
         let before = tableOf state (now (keys .entry)) (now (times .entry)) (now (fields .entry)) (now (records .entry)) in
         let after = tableOf (r .state) (now (keys .exit)) (now (times .exit)) (now (fields .exit)) (now (records .exit)) in
-        ⌜ resultOf (r .status) (r .save) after ≡ storeScene key (membershipOf member) (now (captured .entry)) before ⌝ }
+        ⌜ countedOf (resultOf (r .status) (r .save) after) (r .compared) ≡ storeCounted key (membershipOf member) (now (captured .entry)) before ⌝ }
 {
     ScenesHandler { state }.store_scene(
         keys,

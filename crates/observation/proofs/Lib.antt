@@ -8,10 +8,11 @@
 -- The equivalence: `Invariant` and `Simulation` are about views alone, with `Bits`, `Choices`, `Places`, `Order` and `CopyViews`; `Passed` has
 -- requests that are let through. `Respond` and `RespondCopy` say that commands keep both, `Probes` what tells two views apart. `Reach`, `Forward` and
 -- `Backward` bring this to tables, and `Theorem` has the theorems.
--- What follows: `Readings` and, in share mode, `ShareReadings` have counterexamples to nearby readings, `Removal` what a fabric's removal leaves,
--- `Numbers` the numbers that each call can answer, `Unsound` what a table that is not sound is answered, `Refusals` that a refusal is its number
--- alone and that 11 is decided by the inputs alone, `Midway` what a copy that ran out leaves, `Modes` that no call changes the modes, `Share` what the
--- share mode promises, `FieldBytes` whose fields an answered position has, `Buffers` what a scene list buffer counts for.
+-- What follows: `Readings`, in share mode `ShareReadings` and of a store's count `CountReadings` have counterexamples to nearby readings, `Removal`
+-- what a fabric's removal leaves, `Numbers` the numbers that each call can answer, `Unsound` what a table that is not sound is answered, `Refusals`
+-- that a refusal is its number alone and that 11 is decided by the inputs alone, `Midway` what a copy that ran out leaves, `Modes` that no call
+-- changes the modes, `Share` what the share mode promises, `FieldBytes` whose fields an answered position has, `Buffers` what a scene list buffer
+-- counts for.
 pub mod Lists
 pub mod Lookups
 pub mod Changes
@@ -56,6 +57,7 @@ pub mod Share
 pub mod Midway
 pub mod Readings
 pub mod ShareReadings
+pub mod CountReadings
 pub mod Removal
 pub mod FieldBytes
 pub mod Buffers

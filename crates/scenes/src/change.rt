@@ -2,16 +2,20 @@
 use crate::ScenesHandler;
 use commands::Applied;
 use commands::Commands;
+use commands::Stored;
 use copies::Copies;
 use requests::CopyRequest;
 use requests::Membership;
+use slots::Search;
 use state::Outcome;
+use words::Fault;
 use words::GroupKey;
 use words::SceneKey;
 ghost use mathlib.Core.Path.{_≡_};
 ghost use Rattle.state.specs.Table.{tableOf};
 ghost use Rattle.state.specs.Answer.{resultOf};
-ghost use Rattle.commands.specs.Commands.{addScene, storeScene, removeScene, removeAllScenes, recallScene};
+ghost use Rattle.commands.specs.Commands.{addScene, removeScene, removeAllScenes, recallScene};
+ghost use Rattle.commands.specs.Counted.{countedOf, storeCounted};
 ghost use Rattle.copies.specs.Copy.{copyScene};
 
 impl ScenesHandler {
@@ -50,7 +54,7 @@ impl ScenesHandler {
         self.unsound()
     }
 
-    // Stores captured bytes as a scene, and remembers it as the fabric's current one.
+    // Stores captured bytes as a scene, and remembers it as the fabric's current one. The test of the table finds the scene on its way.
     pub fn store_scene(
         self,
         keys: &mut [u64],
@@ -60,25 +64,17 @@ impl ScenesHandler {
         key: SceneKey,
         member: Membership,
         captured: &[u8],
-    ) -> Outcome
+    ) -> Stored
         ensures { λ r.
             let before = tableOf (self .state) (now (keys .entry)) (now (times .entry)) (now (fields .entry)) (now (records .entry)) in
             let after = tableOf (r .state) (now (keys .exit)) (now (times .exit)) (now (fields .exit)) (now (records .exit)) in
-            ⌜ resultOf (r .status) (r .save) after ≡ storeScene key member (now (captured .entry)) before ⌝ }
+            ⌜ countedOf (resultOf (r .status) (r .save) after) (r .compared) ≡ storeCounted key member (now (captured .entry)) before ⌝ }
     {
         let state = self.state;
-        if state.is_sound(keys, times, fields, records) {
-            return Commands { state }.store_scene(
-                keys,
-                times,
-                fields,
-                records,
-                key,
-                member,
-                captured,
-            );
-        }
-        self.unsound()
+        let Search::Sound(found) = state.search(keys, times, fields, records, key.word()) else {
+            return Stored::refused(Fault::UNSOUND, state);
+        };
+        Commands { state }.store_scene(keys, times, fields, records, found, key, member, captured)
     }
 
     // Removes a scene: the last entry takes its place.

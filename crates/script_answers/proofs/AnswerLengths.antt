@@ -23,8 +23,8 @@ use Rattle.script_lines.specs.Lines.{notGiven}
 use Rattle.script_answers.specs.declared.Row.{Row}
 use Rattle.script_answers.specs.declared.Answer.{Answer}
 use Rattle.script_answers.specs.declared.Tail.{Tail}
-use Rattle.script_answers.specs.declared.Tail.the-variants.{Nothing, Scene, Ids, NoRow, Info, Image}
-use Rattle.script_answers.specs.Answers.{modesText, sizeLine, headTexts, rowTexts, sceneBytes, sceneTexts, listTexts, fits, tailOf, answerLine}
+use Rattle.script_answers.specs.declared.Tail.the-variants.{Nothing, Scene, Ids, NoRow, Info, Image, Compared}
+use Rattle.script_answers.specs.Answers.{modesText, sizeLine, headTexts, rowTexts, sceneBytes, sceneTexts, listTexts, comparedText, fits, tailOf, answerLine}
 use Rattle.script_answers.specs.Dump.{entryTexts, entryLine, recordLine, countsLine, tableLines}
 
 -- texts of at most so many bytes
@@ -45,6 +45,10 @@ modes-length modes =
       | true ↦ omega arith
       | false ↦ l
     ]
+
+compared-length : (trace : Bool) (n : ℕ) → length (comparedText trace n) ≤ 21
+compared-length true n = number-length n
+compared-length false n = omega arith
 
 -- a fault has at most two digits
 fault-length : (s : ℕ) → s < 16 → length (decimal s) ≤ 2
@@ -185,19 +189,20 @@ table-puts t =
 abbrev pub tailMost : List ℕ → ℕ
 tailMost buffer = 21525 + length buffer * 2
 
-tail-puts : (tail : Tail) (buffer fields : List ℕ) → fits tail → Puts (tailMost buffer) (tailOf tail buffer fields)
-tail-puts Nothing buffer fields h = puts-most 0 _ (λ s. s) (omega arith) puts-nothing
-tail-puts (Scene time at len) buffer fields h =
+tail-puts : (trace : Bool) (tail : Tail) (buffer fields : List ℕ) → fits tail → Puts (tailMost buffer) (tailOf trace tail buffer fields)
+tail-puts trace Nothing buffer fields h = puts-most 0 _ (λ s. s) (omega arith) puts-nothing
+tail-puts trace (Scene time at len) buffer fields h =
     let l = length-take len (drop (at * stride + 1) fields) in
-    puts-most 279 _ (tailOf (Scene time at len) buffer fields) (omega arith) (scene-puts time (sceneBytes at len fields) (omega (arith, h .1)))
-tail-puts (Ids remaining len) buffer fields h =
-    puts-most (21 + min len (length buffer) * 21) _ (tailOf (Ids remaining len) buffer fields) (omega (arith, h)) (list-puts remaining buffer len)
-tail-puts NoRow buffer fields h = puts-text _ (32 ∷ 110 ∷ 111 ∷ 110 ∷ 101 ∷ []) (omega arith)
-tail-puts (Info row) buffer fields h = puts-most 107 _ (tailOf (Info row) buffer fields) (omega arith) (row-puts row)
-tail-puts (Image len) buffer fields h =
+    puts-most 279 _ (tailOf trace (Scene time at len) buffer fields) (omega arith) (scene-puts time (sceneBytes at len fields) (omega (arith, h .1)))
+tail-puts trace (Ids remaining len) buffer fields h =
+    puts-most (21 + min len (length buffer) * 21) _ (tailOf trace (Ids remaining len) buffer fields) (omega (arith, h)) (list-puts remaining buffer len)
+tail-puts trace NoRow buffer fields h = puts-text _ (32 ∷ 110 ∷ 111 ∷ 110 ∷ 101 ∷ []) (omega arith)
+tail-puts trace (Info row) buffer fields h = puts-most 107 _ (tailOf trace (Info row) buffer fields) (omega arith) (row-puts row)
+tail-puts trace (Image len) buffer fields h =
     let b = bytes-length (take len buffer) in
     let l = length-take len buffer in
     puts-text _ (spaced (bytesText (take len buffer))) (omega arith)
+tail-puts trace (Compared n) buffer fields h = let l = compared-length trace n in puts-text _ (comparedText trace n) (omega arith)
 
 -- an answer has at most this
 abbrev pub answerMost : List ℕ → ℕ
@@ -208,7 +213,7 @@ pub answer-puts : (trace : Bool) (letter : ℕ) (a : Answer) (buffer fields : Li
 unfolding answerLine
 answer-puts trace letter a buffer fields h =
     puts-most (70 + tailMost buffer + 1) _ (answerLine trace letter a buffer fields) (omega arith)
-    (puts-then (70 + tailMost buffer) 1 (λ s. tailOf (a .tail) buffer fields (writes (headTexts trace letter a) s)) (puts newline)
-    (puts-then 70 (tailMost buffer) (writes (headTexts trace letter a)) (tailOf (a .tail) buffer fields)
-    (head-puts trace letter a) (tail-puts (a .tail) buffer fields h))
+    (puts-then (70 + tailMost buffer) 1 (λ s. tailOf trace (a .tail) buffer fields (writes (headTexts trace letter a) s)) (puts newline)
+    (puts-then 70 (tailMost buffer) (writes (headTexts trace letter a)) (tailOf trace (a .tail) buffer fields)
+    (head-puts trace letter a) (tail-puts trace (a .tail) buffer fields h))
     (puts-text 1 newline (omega arith)))

@@ -8,7 +8,7 @@ use Rattle.words.specs.Constants.{maxScenes, maxFields, stride}
 use Rattle.script_lines.specs.Lines.{notGiven}
 use Rattle.script_answers.specs.declared.Row.{Row}
 use Rattle.script_answers.specs.declared.Tail.{Tail}
-use Rattle.script_answers.specs.declared.Tail.the-variants.{Nothing, Scene, Ids, NoRow, Info, Image}
+use Rattle.script_answers.specs.declared.Tail.the-variants.{Nothing, Scene, Ids, NoRow, Info, Image, Compared}
 use Rattle.script_answers.specs.declared.Answer.{Answer}
 use Rattle.text_output.specs.Writing.{Sheet, puts, writes, writesBelow, newline, number, spaced, flagText, bytesText, statusText}
 
@@ -61,14 +61,19 @@ sceneBytes at len fields = take len (drop (at * stride + 1) fields)
 abbrev pub imageText : List ℕ → ℕ → List ℕ
 imageText buffer len = spaced (bytesText (take len buffer))
 
--- what an answer has beyond its status: nothing, a scene, a list, ` none`, an info row, or an image
-abbrev pub tailOf : Tail → List ℕ → List ℕ → Sheet → Sheet
-tailOf Nothing buffer fields s = s
-tailOf (Scene time at len) buffer fields s = writes (sceneTexts time (sceneBytes at len fields)) s
-tailOf (Ids remaining len) buffer fields s = listTexts remaining buffer len s
-tailOf NoRow buffer fields s = puts (32 ∷ 110 ∷ 111 ∷ 110 ∷ 101 ∷ []) s
-tailOf (Info row) buffer fields s = writes (rowTexts row) s
-tailOf (Image len) buffer fields s = puts (imageText buffer len) s
+-- how many key words a store compared, in a trace alone
+abbrev pub comparedText : Bool → ℕ → List ℕ
+comparedText trace n = cond trace (number n) []
+
+-- what an answer has beyond its status: nothing, a scene, a list, ` none`, an info row, an image, or a store's count
+abbrev pub tailOf : Bool → Tail → List ℕ → List ℕ → Sheet → Sheet
+tailOf trace Nothing buffer fields s = s
+tailOf trace (Scene time at len) buffer fields s = writes (sceneTexts time (sceneBytes at len fields)) s
+tailOf trace (Ids remaining len) buffer fields s = listTexts remaining buffer len s
+tailOf trace NoRow buffer fields s = puts (32 ∷ 110 ∷ 111 ∷ 110 ∷ 101 ∷ []) s
+tailOf trace (Info row) buffer fields s = writes (rowTexts row) s
+tailOf trace (Image len) buffer fields s = puts (imageText buffer len) s
+tailOf trace (Compared n) buffer fields s = puts (comparedText trace n) s
 
 -- a scene's position and length are those that an entry can have, and a list has no more ids than a table has entries
 abbrev pub fits : Tail → Type 0
@@ -78,7 +83,8 @@ fits (Ids remaining len) = len ≤ maxScenes
 fits NoRow = Unit
 fits (Info row) = Unit
 fits (Image len) = Unit
+fits (Compared n) = Unit
 
 -- a line: the head and the tail, with the buffer and the fields that the call left
 unfoldable pub answerLine : Bool → ℕ → Answer → List ℕ → List ℕ → Sheet → Sheet
-answerLine trace letter a buffer fields s = puts newline (tailOf (a .tail) buffer fields (writes (headTexts trace letter a) s))
+answerLine trace letter a buffer fields s = puts newline (tailOf trace (a .tail) buffer fields (writes (headTexts trace letter a) s))

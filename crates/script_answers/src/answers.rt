@@ -19,7 +19,7 @@ ghost use Prim.Native.Nat.{min, _≤_};
 ghost use lib.ListN.{length, getD};
 ghost use Rattle.words.specs.Constants.{maxScenes};
 ghost use Rattle.text_output.specs.Writing.{sheet, puts, writes, writesBelow, number};
-ghost use Rattle.script_answers.specs.Answers.{sizeWord, modesText, sizeLine, headTexts, rowTexts, sceneBytes, sceneTexts, listTexts, imageText, fits, tailOf, answerLine};
+ghost use Rattle.script_answers.specs.Answers.{sizeWord, modesText, sizeLine, headTexts, rowTexts, sceneBytes, sceneTexts, listTexts, imageText, comparedText, fits, tailOf, answerLine};
 
 // `N` in a trace, else `scenes`.
 fn put_size_word(out: &mut [u8], at: usize, trace: bool) -> usize
@@ -112,10 +112,27 @@ fn put_image(out: &mut [u8], at: usize, buffer: &[u8], len: usize) -> usize
     put_bytes(out, at, part(buffer, 0, len))
 }
 
+// In a trace, how many key words a store compared.
+fn put_compared(out: &mut [u8], at: usize, trace: bool, compared: usize) -> usize
+    ensures { λ r. ⌜ sheet (now (out .exit)) r ≡ puts (comparedText trace compared) (sheet (now (out .entry)) at) ⌝ }
+{
+    if trace {
+        return put_number(out, at, compared as u64);
+    }
+    at
+}
+
 // What an answer has beyond its status.
-fn put_tail(out: &mut [u8], at: usize, tail: Tail, fields: &[u8], buffer: &[u8]) -> usize
+fn put_tail(
+    out: &mut [u8],
+    at: usize,
+    trace: bool,
+    tail: Tail,
+    fields: &[u8],
+    buffer: &[u8],
+) -> usize
     requires { ⌜ fits tail ⌝ }
-    ensures { λ r. ⌜ sheet (now (out .exit)) r ≡ tailOf tail (now (buffer .entry)) (now (fields .entry)) (sheet (now (out .entry)) at) ⌝ }
+    ensures { λ r. ⌜ sheet (now (out .exit)) r ≡ tailOf trace tail (now (buffer .entry)) (now (fields .entry)) (sheet (now (out .entry)) at) ⌝ }
 {
     match tail {
         Tail::Nothing => at,
@@ -124,6 +141,7 @@ fn put_tail(out: &mut [u8], at: usize, tail: Tail, fields: &[u8], buffer: &[u8])
         Tail::NoRow => put_text(out, at, b" none"),
         Tail::Info(row) => put_row(out, at, row),
         Tail::Image(len) => put_image(out, at, buffer, len),
+        Tail::Compared(compared) => put_compared(out, at, trace, compared),
     }
 }
 
@@ -161,6 +179,6 @@ pub fn put_answer(
 {
     let tail = answer.tail;
     let head = put_head(out, at, trace, letter, answer);
-    let end = put_tail(out, head, tail, fields, buffer);
+    let end = put_tail(out, head, trace, tail, fields, buffer);
     end_line(out, end)
 }

@@ -21,7 +21,7 @@ pub struct Row {
 }
 
 // What an answer has beyond its status: nothing, the time, position and length of a scene, the remaining capacity and the count of a
-// list, an info read with or without a row, or the length of an image.
+// list, an info read with or without a row, the length of an image, or how many key words a store compared, which only a trace shows.
 pub enum Tail {
     Nothing,
     Scene(u32, usize, usize),
@@ -29,6 +29,7 @@ pub enum Tail {
     NoRow,
     Info(Row),
     Image(usize),
+    Compared(usize),
 }
 
 // An answer, with the head that it leaves.

@@ -7,10 +7,12 @@ use lib.Dec.{eqb}
 use Rattle.requests.specs.declared.CopyRequest.{CopyRequest}
 use Rattle.requests.specs.Requests.{membershipOf}
 use Rattle.state.specs.Table.{Table}
-use Rattle.commands.specs.Commands.{addScene, storeScene, removeScene, removeAllScenes}
+use Rattle.commands.specs.Commands.{addScene, removeScene, removeAllScenes}
+use Rattle.commands.specs.Counted.{Counted, storeCounted}
 use Rattle.copies.specs.Copy.{copyScene}
 use Rattle.add_read.specs.Adding.{addSceneRead}
 use Rattle.script_lines.specs.Values.{byte, short, long, valueAt, sceneKey, groupKey}
+use Rattle.script_answers.specs.declared.Tail.the-variants.{Compared}
 use Rattle.script_answers.specs.Done.{Done, plain}
 
 abbrev pub copyRequest : List ℕ → CopyRequest
@@ -31,9 +33,13 @@ unfoldable pub addRead : List ℕ → List ℕ → List ℕ → Table → Done
 addRead values pairs ext t =
     plain (addSceneRead (sceneKey values) (long (valueAt values 4)) (membershipOf (byte (valueAt values 5))) pairs ext t)
 
+-- a store's answer ends with its count
+abbrev pub storeDone : Counted → Done
+storeDone c = record { status = c .result .status; save = c .result .save; tail = Compared (c .compared); table = c .result .table }
+
 -- S, with the captured bytes
 unfoldable pub store : List ℕ → List ℕ → Table → Done
-store values captured t = plain (storeScene (sceneKey values) (membershipOf (byte (valueAt values 4))) captured t)
+store values captured t = storeDone (storeCounted (sceneKey values) (membershipOf (byte (valueAt values 4))) captured t)
 
 -- R
 unfoldable pub remove : List ℕ → Table → Done

@@ -4,6 +4,7 @@ use requests::CopyRequest;
 use requests::GroupScene;
 use scenes::ScenesHandler;
 use script_answers::Answer;
+use script_answers::Tail;
 use script_lines::Line;
 use script_lines::byte;
 use script_lines::group_key;
@@ -124,7 +125,7 @@ fn store(
     let captured = part(line, read.starts[5], read.values[5] as usize);
     let key = scene_key(read);
     let member = member(read.values[4]);
-    Answer::plain(ScenesHandler { state }.store_scene(
+    let done = ScenesHandler { state }.store_scene(
         keys,
         times,
         fields,
@@ -132,7 +133,14 @@ fn store(
         key,
         member,
         captured,
-    ))
+    );
+    let after = done.state;
+    Answer {
+        status: done.status,
+        save: done.save,
+        state: after,
+        tail: Tail::Compared(done.compared),
+    }
 }
 
 // R: remove.

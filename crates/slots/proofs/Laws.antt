@@ -1,7 +1,7 @@
 -- The laws of what is read of the lent lists and written over them. Assumes nothing.
 use Prim.Native.Nat.{ℕ, zero, suc, _+_, _*_, _-_, _/_, _%_, _^_, _≤_, _<_}
 use mathlib.Core.Path.{_≡_, refl, sym, ap, _∙_}
-use mathlib.Core.Bool.{Bool, true, false, not, cond}
+use mathlib.Core.Bool.{Bool, true, false, not, cond, false≢true}
 use mathlib.Core.List.{List, [], _∷_, _++_, map, append-assoc, append-nil, map-append}
 use native.Mathlib.Numerals.{add-one}
 use mathlib.Core.Logic.{⊎-elim}
@@ -17,7 +17,10 @@ use Rattle.words.specs.Below.{anyBelow, countBelow, keptBelow}
 use Rattle.words.specs.Constants.{stride, maxFields}
 use Rattle.words.specs.Words.{within, fabricOf, sceneOf}
 use Rattle.words.specs.declared.KeyRange.{KeyRange}
-use Rattle.slots.specs.Slots.{Slots, keySound, ofFour, ofEight, countKeys, lengthAt, fieldsAt, lengthThen, part, overlay, laid, chunks, gathered, outside, scenesInside, copySlot}
+use Rattle.words.specs.declared.Found.{Found}
+use Rattle.slots.specs.declared.Search.{Search}
+use Rattle.slots.specs.declared.Search.the-variants.{Sound, Unsound}
+use Rattle.slots.specs.Slots.{Slots, keySound, searched, ofEight, countKeys, lengthAt, fieldsAt, lengthThen, part, overlay, laid, chunks, gathered, outside, scenesInside, copySlot}
 
 -- ---- a sound key word, by its upper half
 
@@ -49,13 +52,27 @@ over-tested m x =
 
 -- ---- the positions of a block
 
-pub four-any : (p : ℕ → Bool) (i : ℕ) → anyBelow (λ j. p (i + j)) 4 ≡ ofFour p i
-unfolding anyBelow
-four-any p i = let e : i + 0 ≡ i = omega arith in rw e
-
 pub eight-any : (p : ℕ → Bool) (i : ℕ) → anyBelow (λ j. p (i + j)) 8 ≡ ofEight p i
 unfolding anyBelow
 eight-any p i = let e : i + 0 ≡ i = omega arith in rw e
+
+-- ---- what a search tells
+
+abbrev is-sound : Search → Bool
+is-sound (Sound f) = true
+is-sound Unsound = false
+
+abbrev found-in : Found → Search → Found
+found-in g (Sound f) = f
+found-in g Unsound = g
+
+pub search-sound : (b : Bool) (f g : Found) → Sound g ≡ searched b f → (b ≡ true) × (g ≡ f)
+search-sound true f g e = (refl, ap (found-in g) e)
+search-sound false f g e = absurd (false≢true (sym (ap is-sound e)))
+
+pub search-unsound : (b : Bool) (f : Found) → Unsound ≡ searched b f → b ≡ false
+search-unsound true f e = absurd (false≢true (ap is-sound e))
+search-unsound false f e = refl
 
 -- ---- lists that are alike from a position on
 

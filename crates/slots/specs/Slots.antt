@@ -1,7 +1,7 @@
 -- The three lent slices that hold the entries, the entry at a position, and what the functions on them compute.
 -- Document 01, "Forms that change first": SceneEntry, and how an entry is moved and written.
 use Prim.Native.Nat.{ℕ, _+_, _*_, _^_}
-use mathlib.Core.Bool.{Bool, not, _&&_, _||_}
+use mathlib.Core.Bool.{Bool, not, _&&_, _||_, cond}
 use mathlib.Core.List.{List, [], _∷_, _++_, map}
 use lib.Dec.{eqb, leb, ltb}
 use lib.ListN.{length, take, drop, getD, set}
@@ -10,6 +10,8 @@ use Rattle.words.specs.Words.{within, fabricOf, sceneOf}
 use Rattle.words.specs.Below.{everyBelow, countBelow, firstBelow, keptBelow}
 use Rattle.words.specs.declared.Found.{Found}
 use Rattle.words.specs.declared.KeyRange.{KeyRange}
+use Rattle.slots.specs.declared.Search.{Search}
+use Rattle.slots.specs.declared.Search.the-variants.{Sound, Unsound}
 
 -- the lent slices, whole: key words, times, and 129 bytes for each entry
 pub record Slots : Type 0 where
@@ -48,12 +50,13 @@ lengthsSound fields n = everyBelow (λ i. leb (lengthAt fields i) maxFields) n
 abbrev pub entrySound : List ℕ → List ℕ → ℕ → Bool
 entrySound keys fields i = keySound (getD keys i 0) && leb (lengthAt fields i) maxFields
 
--- whether p holds at one of four, or of eight, positions from i on: how a block is tested
-abbrev pub ofFour : (ℕ → Bool) → ℕ → Bool
-ofFour p i = ((p i || p (i + 1)) || p (i + 2)) || p (i + 3)
+-- what a search tells of entries that are sound, or not
+abbrev pub searched : Bool → Found → Search
+searched sound found = cond sound (Sound found) Unsound
 
+-- whether p holds at one of eight positions from i on: how a block is tested
 abbrev pub ofEight : (ℕ → Bool) → ℕ → Bool
-ofEight p i = (((ofFour p i || p (i + 4)) || p (i + 5)) || p (i + 6)) || p (i + 7)
+ofEight p i = ((((((p i || p (i + 1)) || p (i + 2)) || p (i + 3)) || p (i + 4)) || p (i + 5)) || p (i + 6)) || p (i + 7)
 
 -- the n bytes from a position on
 abbrev pub part : ℕ → ℕ → List ℕ → List ℕ

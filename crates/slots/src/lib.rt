@@ -13,7 +13,13 @@ ghost use Rattle.words.specs.Constants.{stride, maxFields};
 ghost use lib.Dec.{eqb, leb};
 ghost use Rattle.words.specs.Below.{everyBelow};
 ghost use Rattle.words.specs.declared.Found.the-variants.{Nothing};
-ghost use Rattle.slots.specs.Slots.{firstKey, countKeys, keysSound, lengthsSound, entrySound, ofFour, ofEight, lengthAt, fieldsAt, laid, scenesInside};
+ghost use Rattle.slots.specs.Slots.{firstKey, countKeys, keysSound, lengthsSound, entrySound, searched, ofEight, lengthAt, fieldsAt, laid, scenesInside};
+
+// What one walk over the entries tells: that one of them is not sound, or that all are and where a key word stands.
+pub enum Search {
+    Unsound,
+    Sound(Found),
+}
 
 // Whether one of the eight key words from a position on is this one.
 fn in_block(keys: &[u64], at: usize, key: u64) -> bool
@@ -45,12 +51,14 @@ fn skip_blocks(keys: &[u64], n: usize, key: u64) -> usize
     i
 }
 
-// The first of the first n positions that holds the key word.
-pub fn find(keys: &[u64], n: usize, key: u64) -> Found
+// The first of the first n positions that holds the key word, if it does not stand below a position.
+fn find_from(keys: &[u64], from: usize, n: usize, key: u64) -> Found
+    requires { ⌜ from ≤ n ⌝ }
     requires { ⌜ n ≤ length (now keys) ⌝ }
+    requires { ⌜ firstKey (now keys) from key ≡ Nothing ⌝ }
     ensures { λ r. ⌜ r ≡ firstKey (now (keys .entry)) n key ⌝ }
 {
-    let mut i = skip_blocks(keys, n, key);
+    let mut i = from;
     while i < n {
         if keys[i] == key {
             return Found::At(i);
@@ -58,6 +66,15 @@ pub fn find(keys: &[u64], n: usize, key: u64) -> Found
         i += 1;
     }
     Found::Nothing
+}
+
+// The first of the first n positions that holds the key word.
+pub fn find(keys: &[u64], n: usize, key: u64) -> Found
+    requires { ⌜ n ≤ length (now keys) ⌝ }
+    ensures { λ r. ⌜ r ≡ firstKey (now (keys .entry)) n key ⌝ }
+{
+    let from = skip_blocks(keys, n, key);
+    find_from(keys, from, n, key)
 }
 
 // How many of the first n key words lie in a range.
@@ -100,32 +117,56 @@ fn is_unsound(keys: &[u64], fields: &[u8], at: usize) -> bool
     (KeyWord::UPPERS <= past_first as u32) | (Limits::MAX_EXT_FIELDS_LEN < len)
 }
 
-// Whether one of the four entries from a position on is not sound.
+// Whether one of the eight entries from a position on is not sound.
 fn unsound_in_block(keys: &[u64], fields: &[u8], at: usize) -> bool
-    requires { ⌜ at + 4 ≤ length (now keys) ⌝ }
-    requires { ⌜ (at + 4) * stride ≤ length (now fields) ⌝ }
-    ensures { λ r. ⌜ r ≡ ofFour (λ i. not (entrySound (now (keys .entry)) (now (fields .entry)) i)) at ⌝ }
+    requires { ⌜ at + 8 ≤ length (now keys) ⌝ }
+    requires { ⌜ (at + 8) * stride ≤ length (now fields) ⌝ }
+    ensures { λ r. ⌜ r ≡ ofEight (λ i. not (entrySound (now (keys .entry)) (now (fields .entry)) i)) at ⌝ }
 {
     is_unsound(keys, fields, at)
         | is_unsound(keys, fields, at + 1)
         | is_unsound(keys, fields, at + 2)
         | is_unsound(keys, fields, at + 3)
+        | is_unsound(keys, fields, at + 4)
+        | is_unsound(keys, fields, at + 5)
+        | is_unsound(keys, fields, at + 6)
+        | is_unsound(keys, fields, at + 7)
 }
 
-// A position of the first n, found in steps of four, below which every entry is sound.
-fn sound_blocks(keys: &[u64], fields: &[u8], n: usize) -> usize
+// A position of the first n, found in steps of eight from one on below which every entry is sound, of which the same holds.
+fn sound_blocks(keys: &[u64], fields: &[u8], from: usize, n: usize) -> usize
+    requires { ⌜ from ≤ n ⌝ }
     requires { ⌜ n ≤ length (now keys) ⌝ }
     requires { ⌜ n * stride ≤ length (now fields) ⌝ }
+    requires { ⌜ everyBelow (λ i. entrySound (now keys) (now fields) i) from ≡ true ⌝ }
     ensures { λ r. ⌜ (r ≤ n) × (everyBelow (λ i. entrySound (now (keys .entry)) (now (fields .entry)) i) r ≡ true) ⌝ }
 {
-    let mut i = 0;
-    while 4 <= n - i {
+    let mut i = from;
+    while 8 <= n - i {
         if unsound_in_block(keys, fields, i) {
             return i;
         }
-        i += 4;
+        i += 8;
     }
     i
+}
+
+// Whether each of the first n entries is sound, its key word and its length, if those below a position are.
+fn sound_from(keys: &[u64], fields: &[u8], from: usize, n: usize) -> bool
+    requires { ⌜ from ≤ n ⌝ }
+    requires { ⌜ n ≤ length (now keys) ⌝ }
+    requires { ⌜ n * stride ≤ length (now fields) ⌝ }
+    requires { ⌜ everyBelow (λ i. entrySound (now keys) (now fields) i) from ≡ true ⌝ }
+    ensures { λ r. ⌜ r ≡ (keysSound (now (keys .entry)) n && lengthsSound (now (fields .entry)) n) ⌝ }
+{
+    let mut i = sound_blocks(keys, fields, from, n);
+    while i < n {
+        if is_unsound(keys, fields, i) {
+            return false;
+        }
+        i += 1;
+    }
+    true
 }
 
 // Whether each of the first n entries is sound: its key word, and its length.
@@ -134,14 +175,40 @@ pub fn entries_sound(keys: &[u64], fields: &[u8], n: usize) -> bool
     requires { ⌜ n * stride ≤ length (now fields) ⌝ }
     ensures { λ r. ⌜ r ≡ (keysSound (now (keys .entry)) n && lengthsSound (now (fields .entry)) n) ⌝ }
 {
-    let mut i = sound_blocks(keys, fields, n);
-    while i < n {
-        if is_unsound(keys, fields, i) {
-            return false;
+    sound_from(keys, fields, 0, n)
+}
+
+// A position of the first n, found in steps of eight, below which every entry is sound and the key word does not stand.
+fn pass_blocks(keys: &[u64], fields: &[u8], n: usize, key: u64) -> usize
+    requires { ⌜ n ≤ length (now keys) ⌝ }
+    requires { ⌜ n * stride ≤ length (now fields) ⌝ }
+    ensures { λ r.
+        let every = everyBelow (λ i. entrySound (now (keys .entry)) (now (fields .entry)) i) r in
+        ⌜ (r ≤ n) × (every ≡ true) × (firstKey (now (keys .entry)) r key ≡ Nothing) ⌝ }
+{
+    let mut i = 0;
+    while 8 <= n - i {
+        if unsound_in_block(keys, fields, i) | in_block(keys, i, key) {
+            return i;
         }
-        i += 1;
+        i += 8;
     }
-    true
+    i
+}
+
+// Whether each of the first n entries is sound and, if so, the first position that holds the key word: one walk over the key words.
+pub fn search_entries(keys: &[u64], fields: &[u8], n: usize, key: u64) -> Search
+    requires { ⌜ n ≤ length (now keys) ⌝ }
+    requires { ⌜ n * stride ≤ length (now fields) ⌝ }
+    ensures { λ r.
+        let every = keysSound (now (keys .entry)) n && lengthsSound (now (fields .entry)) n in
+        ⌜ r ≡ searched every (firstKey (now (keys .entry)) n key) ⌝ }
+{
+    let from = pass_blocks(keys, fields, n, key);
+    if sound_from(keys, fields, from, n) {
+        return Search::Sound(find_from(keys, from, n, key));
+    }
+    Search::Unsound
 }
 
 // How many field bytes the entry at a position has.

@@ -3,6 +3,7 @@ use crate::Modes;
 use crate::Outcome;
 use crate::ScenesState;
 use records::Scope;
+use slots::Search;
 use words::Found;
 use words::KeyRange;
 use words::Limits;
@@ -15,7 +16,7 @@ ghost use Prim.Native.Nat.{_*_, _-_, _<_, _≤_};
 ghost use lib.ListN.{length};
 ghost use Rattle.words.specs.Constants.{stride, maxFields};
 ghost use Rattle.words.specs.Words.{wordOf};
-ghost use Rattle.slots.specs.Slots.{firstKey};
+ghost use Rattle.slots.specs.Slots.{firstKey, searched};
 ghost use Rattle.state.specs.Table.{tableOf, entriesOf, Room};
 ghost use Rattle.state.specs.Sound.{inBounds, sound};
 ghost use Rattle.state.specs.Capacity.{roomFor, remaining, shareMode, mayAppend};
@@ -73,6 +74,29 @@ impl ScenesState {
             }
         }
         false
+    }
+
+    // Whether the table is sound and, if so, where a key word stands: one walk over the key words tells both.
+    pub fn search(
+        self,
+        keys: &[u64],
+        times: &[u32],
+        fields: &[u8],
+        records: &[u64],
+        key: u64,
+    ) -> Search
+        ensures { λ r.
+            let table = tableOf self (now (keys .entry)) (now (times .entry)) (now (fields .entry)) (now (records .entry)) in
+            ⌜ r ≡ searched (sound table) (firstKey (now (keys .entry)) (self .entries) key) ⌝ }
+    {
+        let entries = self.entries;
+        let recorded = self.recorded;
+        if self.in_bounds(keys.len(), times.len(), fields.len(), records.len()) {
+            if records::records_sound(records, recorded) {
+                return slots::search_entries(keys, fields, entries, key);
+            }
+        }
+        Search::Unsound
     }
 
     // How many scenes a fabric may still copy and, in share mode, add, before that is cut. A full table has room for none, whatever the fabric uses.

@@ -121,6 +121,17 @@ pub struct Done {
     pub save: bool,
 }
 
+/// A store succeeded.
+#[must_use = "the host saves the table where `save` says so"]
+#[derive(Clone, Copy, Debug, PartialEq, Eq)]
+pub struct Stored {
+    /// Whether the host has to save the table.
+    pub save: bool,
+    /// How many key words were held against the wanted one: up to the first match, or all of them. For the host alone, no part of the answer
+    /// to a member.
+    pub compared: usize,
+}
+
 /// A scene in the table.
 #[derive(Clone, Copy, Debug, PartialEq, Eq)]
 pub struct Scene<'a> {

@@ -29,6 +29,15 @@ pub(crate) struct Outcome {
 
 #[repr(C)]
 #[derive(Clone, Copy)]
+pub(crate) struct Stored {
+    pub state: State,
+    pub status: u8,
+    pub save: u8,
+    pub compared: usize,
+}
+
+#[repr(C)]
+#[derive(Clone, Copy)]
 pub(crate) struct SceneRead {
     pub state: State,
     pub status: u8,
@@ -218,7 +227,7 @@ calls! { LentMut, as_mut_ptr, write:
             key => SceneKey, time => u32, member => u8,
             pairs.as_ptr() => *const u8, pairs.len() => usize, ext.as_ptr() => *const u8, ext.len() => usize
         );
-    fn store(key: SceneKey, member: u8, captured: &[u8]) -> Outcome
+    fn store(key: SceneKey, member: u8, captured: &[u8]) -> Stored
         = scenes_store(key => SceneKey, member => u8, captured.as_ptr() => *const u8, captured.len() => usize);
     fn recall(key: SceneKey, member: u8, applied: u8) -> Outcome = scenes_recall(key => SceneKey, member => u8, applied => u8);
     fn remove(key: SceneKey, member: u8) -> Outcome = scenes_remove(key => SceneKey, member => u8);

@@ -37,7 +37,7 @@ mod table;
 #[cfg(test)]
 mod tests;
 
-pub use answers::{Done, Error, InfoRow, Scene, SceneList};
+pub use answers::{Done, Error, InfoRow, Scene, SceneList, Stored};
 pub use fields::{field_items, field_pairs, list_pairs, pair_of_word, pairs_max, FieldItem, FieldItems, FieldPairs};
 pub use requests::{modes, pair, Applied, CopyRequest, GroupKey, GroupScene, Membership, SceneKey, Transition};
 pub use table::{image_max, library_version, Memory, Scenes, MAX_FIELDS, MAX_REMAINING, MAX_SCENES, MAX_TIME, STRIDE, VERSION};

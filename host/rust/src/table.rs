@@ -1,11 +1,11 @@
 //! The table: its memory, and a method for each call.
-use crate::answers::{Done, Error, InfoRow, Scene, SceneList};
+use crate::answers::{Done, Error, InfoRow, Scene, SceneList, Stored};
 use crate::ffi::{self, Lent, LentMut, Outcome, SceneRead, State};
 use crate::fields::{field_pairs, pairs_max};
 use crate::requests::{pair, Applied, CopyRequest, GroupKey, Membership, SceneKey, Transition};
 
 /// The version of the interface that this crate is for. It steps whenever a struct, an answer or a call of the library changes.
-pub const VERSION: u32 = 7;
+pub const VERSION: u32 = 8;
 
 /// The version of the library that was linked: [`VERSION`], unless the crate was linked with another's.
 ///
@@ -311,21 +311,24 @@ impl<const N: usize> Scenes<N> {
         self.done(done)
     }
 
-    /// Stores captured bytes as a scene, with the end of their container behind them. It becomes the fabric's current scene.
+    /// Stores captured bytes as a scene, with the end of their container behind them. It becomes the fabric's current scene. The host is told
+    /// how many key words were compared; an empty table has none, so 0 is the count of a success too.
     ///
     /// ```
-    /// use scenes::{Error, Membership, SceneKey, Scenes};
+    /// use scenes::{Error, Membership, SceneKey, Scenes, Stored};
     ///
     /// let mut table = Scenes::<16>::new();
     /// let key = SceneKey { fabric: 1, endpoint: 1, group: 2, scene: 5 };
     /// assert_eq!(table.store(key, Membership::No, b"\x15"), Err(Error::InvalidCommand));
-    /// assert!(table.store(key, Membership::Yes, b"\x15")?.save);
+    /// assert_eq!(table.store(key, Membership::Yes, b"\x15")?, Stored { save: true, compared: 0 });
+    /// assert_eq!(table.store(key, Membership::Yes, b"\x15")?, Stored { save: true, compared: 1 });
     /// # Ok::<(), Error>(())
     /// ```
-    pub fn store(&mut self, key: SceneKey, member: Membership, captured: &[u8]) -> Result<Done, Error> {
+    pub fn store(&mut self, key: SceneKey, member: Membership, captured: &[u8]) -> Result<Stored, Error> {
         let (state, lent) = self.lend();
-        let done = ffi::store(state, lent, key, member.number(), captured);
-        self.done(done)
+        let ffi::Stored { state, status, save, compared } = ffi::store(state, lent, key, member.number(), captured);
+        let Done { save } = self.done(Outcome { state, status, save })?;
+        Ok(Stored { save, compared })
     }
 
     /// A scene's time and fields.

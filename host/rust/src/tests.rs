@@ -1,7 +1,7 @@
 //! What nothing checks across the boundary: layouts, arguments, lengths; and a table whose memory was damaged.
 // The digits of a key word are grouped by its parts.
 #![allow(clippy::unusual_byte_groupings)]
-use crate::ffi::{self, Cursor, FieldBytes, ImageSaved, InfoRead, Lent, LentMut, ListRead, Outcome, PairsRead, SceneRead, State};
+use crate::ffi::{self, Cursor, FieldBytes, ImageSaved, InfoRead, Lent, LentMut, ListRead, Outcome, PairsRead, SceneRead, State, Stored};
 use crate::*;
 use core::mem::{offset_of, size_of};
 
@@ -18,6 +18,8 @@ fn layouts_are_those_of_the_header() {
     assert_eq!((offset_of!(CopyRequest, from), offset_of!(CopyRequest, to)), (6, 10));
     assert_eq!((size_of::<Outcome>(), offset_of!(Outcome, status), offset_of!(Outcome, save)), (40, 32, 33));
     assert_eq!((offset_of!(Outcome, state), offset_of!(SceneRead, state)), (0, 0));
+    assert_eq!((size_of::<Stored>(), offset_of!(Stored, state), offset_of!(Stored, status)), (48, 0, 32));
+    assert_eq!((offset_of!(Stored, save), offset_of!(Stored, compared)), (33, 40));
     assert_eq!((offset_of!(ListRead, state), offset_of!(InfoRead, state)), (0, 0));
     assert_eq!((size_of::<SceneRead>(), offset_of!(SceneRead, status), offset_of!(SceneRead, time)), (56, 32, 36));
     assert_eq!((offset_of!(SceneRead, at), offset_of!(SceneRead, len), offset_of!(ListRead, len)), (40, 48, 40));
@@ -88,6 +90,23 @@ fn modes_arrive() {
     }
     assert_eq!(ffi::new_with_modes(usize::MAX, 0xA5), State { size: usize::MAX, entries: 0, recorded: 0, dataver: 0, modes: 0xA5 });
     assert_eq!(ffi::new(3), ffi::new_with_modes(3, 0));
+}
+
+// A refused store of a scene that is there, and one for which there is no place, count nothing.
+#[test]
+fn a_refused_store_counts_none() {
+    let mut table = Scenes::<2>::new();
+    let key = |scene| SceneKey { fabric: 0x12, endpoint: 0x3456, group: 0x789A, scene };
+    let mut stored = |scene, member, captured: &[u8]| {
+        let (state, lent) = table.lend();
+        let done = ffi::store(state, lent, key(scene), member, captured);
+        let answer = (done.status, done.save, done.compared);
+        let _ = table.done(Outcome { state: done.state, status: done.status, save: done.save });
+        answer
+    };
+    assert_eq!([stored(1, 1, &[]), stored(2, 1, &[])], [(0, 1, 0), (0, 1, 1)]);
+    assert_eq!([stored(2, 0, &[]), stored(2, 2, &[]), stored(2, 1, &[0; 128])], [(0x85, 0, 0), (2, 0, 0), (3, 0, 0)]);
+    assert_eq!([stored(3, 1, &[]), stored(2, 1, &[])], [(0x89, 0, 0), (0, 1, 2)]);
 }
 
 // The length that a view and a lookup hand over is that of the field bytes at their position.
@@ -271,7 +290,7 @@ fn a_damaged_table_is_refused_by_every_call() {
         assert_eq!(table.add_read(key, 0, Membership::Failed, &[0; 200], |_, _| 9), unsound);
         assert_eq!(table.add_read(key, 0, Membership::Failed, WIDE, |_, _| 9), unsound);
         assert_eq!(table.add_read(key, 0, Membership::Failed, &pairs_of_seven(30), |_, _| 9), unsound);
-        assert_eq!(table.store(key, Membership::Failed, &[0; 200]), unsound);
+        assert_eq!(table.store(key, Membership::Failed, &[0; 200]), Err(Error::Unsound));
         assert_eq!(table.view(key, Membership::Failed), Err(Error::Unsound));
         assert_eq!(table.recall_lookup(key, Membership::Failed, Transition::Stored), Err(Error::Unsound));
         assert_eq!(table.recall(key, Membership::Failed, Applied::Failed), unsound);

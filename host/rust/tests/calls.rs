@@ -5,6 +5,11 @@ const YES: Membership = Membership::Yes;
 const SAVED: Result<Done, Error> = Ok(Done { save: true });
 const UNSAVED: Result<Done, Error> = Ok(Done { save: false });
 
+// What a store answers that compared so many key words.
+fn stored(compared: usize) -> Result<Stored, Error> {
+    Ok(Stored { save: true, compared })
+}
+
 fn key(fabric: u8, group: u16, scene: u8) -> SceneKey {
     SceneKey { fabric, endpoint: 1, group, scene }
 }
@@ -29,14 +34,14 @@ fn with<const N: usize>(scenes: &[u8]) -> Scenes<N> {
 }
 
 // A refusal changes nothing.
-fn refused<const N: usize>(table: &mut Scenes<N>, number: u8, call: impl Fn(&mut Scenes<N>) -> Result<Done, Error>) {
+fn refused<const N: usize, T>(table: &mut Scenes<N>, number: u8, call: impl Fn(&mut Scenes<N>) -> Result<T, Error>) {
     let before = table.clone();
-    assert_eq!(call(table).map_err(Error::number), Err(number));
+    assert_eq!(call(table).map(|_| ()).map_err(Error::number), Err(number));
     assert_eq!(*table, before);
 }
 
 // The refusals that commands on a scene share, in their order.
-fn refused_keys(call: impl Fn(&mut Scenes<16>, SceneKey, Membership) -> Result<Done, Error>) {
+fn refused_keys<T>(call: impl Fn(&mut Scenes<16>, SceneKey, Membership) -> Result<T, Error>) {
     let table = &mut with(&[5]);
     refused(table, 1, |t| call(t, key(0, 1, 0), Membership::Failed));
     refused(table, 0x87, |t| call(t, key(1, 1, 0), Membership::Failed));
@@ -56,7 +61,7 @@ fn the_example_of_the_requirements() {
     let scene = key(1, 0, 5);
     assert_eq!(table.add(scene, 1000, YES, &[], b"\x18"), SAVED);
     assert_eq!((table.entries(), table.data_version()), (1, 0));
-    assert_eq!(table.store(scene, YES, b""), SAVED);
+    assert_eq!(table.store(scene, YES, b""), stored(1));
     assert_eq!((table.entries(), table.data_version()), (1, 1));
     assert_eq!(table.add(scene, 2000, YES, &[], b"\x18"), SAVED);
     assert_eq!((table.entries(), table.data_version()), (1, 2));
@@ -200,13 +205,28 @@ fn damaged_fields_are_read_alike() {
     assert!(taken > 256);
 }
 
+// Up to the first match, or all of them. 0 is no refusal: the first store had nothing to compare.
+#[test]
+fn a_store_counts_what_it_compared() {
+    let table = &mut Scenes::<4>::new();
+    for (before, scene) in (5..=8).enumerate() {
+        assert_eq!(table.store(key(1, 1, scene), YES, &[]), stored(before));
+    }
+    for (at, scene) in (5..=8).enumerate() {
+        assert_eq!(table.store(key(1, 1, scene), YES, &[]), stored(at + 1));
+    }
+    refused(table, 0x89, |t| t.store(key(1, 1, 9), YES, &[]));
+    assert_eq!(table.remove(key(1, 1, 5), YES), SAVED);
+    assert_eq!(table.store(key(1, 1, 8), YES, &[]), stored(1));
+}
+
 #[test]
 fn store() {
     refused_keys(|t, k, m| t.store(k, m, &[]));
     let table = &mut with::<2>(&[5]);
     refused(table, 3, |t| t.store(key(1, 1, 6), YES, &[0; 128]));
-    assert_eq!(table.store(key(1, 1, 6), YES, &[7; 127]), SAVED);
-    assert_eq!(table.store(key(1, 1, 5), YES, &[]), SAVED);
+    assert_eq!(table.store(key(1, 1, 6), YES, &[7; 127]), stored(1));
+    assert_eq!(table.store(key(1, 1, 5), YES, &[]), stored(1));
     refused(table, 0x89, |t| t.store(key(1, 1, 7), YES, &[]));
     assert_eq!(table.view(key(1, 1, 5), YES), Ok(Scene { time: 1005, at: 0, fields: b"\x18" }));
     assert_eq!(table.view(key(1, 1, 6), YES).map(|scene| scene.fields.len()), Ok(128));
@@ -305,7 +325,7 @@ fn read_info() {
     assert_eq!(table.read_info(2, 1, false), Ok(None));
     let row = InfoRow { count: 1, group: 0, scene: 0, valid: false, remaining: 6, fabric: 1 };
     assert_eq!(table.read_info(1, 1, false), Ok(Some(row)));
-    assert_eq!(table.store(key(1, 513, 9), YES, &[]), SAVED);
+    assert_eq!(table.store(key(1, 513, 9), YES, &[]), stored(1));
     let row = InfoRow { count: 2, group: 513, scene: 9, valid: true, remaining: 5, fabric: 1 };
     assert_eq!(table.read_info(1, 1, false), Ok(Some(row)));
     assert_eq!(table.attribute_changed(2), UNSAVED);
@@ -335,7 +355,7 @@ fn a_remaining_capacity_is_reported_up_to_253() {
 fn shared() -> Scenes<5> {
     let mut table = Scenes::with_modes(modes::SHARE);
     assert_eq!(table.add(key(1, 1, 1), 1001, YES, &[], &[1]), SAVED);
-    assert_eq!(table.store(key(1, 1, 2), YES, &[2]), SAVED);
+    assert_eq!(table.store(key(1, 1, 2), YES, &[2]), stored(1));
     table
 }
 
@@ -353,17 +373,17 @@ fn a_share_limits_every_new_scene() {
     refused(table, 0x85, |t| t.add(key(1, 1, 3), 0, YES, &[0], &[]));
     refused(table, 3, |t| t.store(key(1, 1, 3), YES, &[0; 128]));
     assert_eq!(table.add(key(1, 1, 1), 2001, YES, &[], &[9]), SAVED);
-    assert_eq!(table.store(key(1, 1, 2), YES, &[8]), SAVED);
+    assert_eq!(table.store(key(1, 1, 2), YES, &[8]), stored(2));
     assert_eq!(table.add_answered(key(1, 1, 1), 2002, YES, &[1, 1], TWO_PAIRS), SAVED);
     assert_eq!((table.entries(), table.view(key(1, 1, 1), YES).map(|scene| scene.time)), (2, Ok(2002)));
     assert_eq!(table.add(key(2, 1, 3), 0, YES, &[], &[]), SAVED);
-    assert_eq!(table.store(key(3, 1, 3), YES, &[]), SAVED);
+    assert_eq!(table.store(key(3, 1, 3), YES, &[]), stored(3));
     assert_eq!(table.get_membership(group(3, 1), YES, &mut [0]).map(|list| list.remaining), Ok(1));
     assert_eq!(table.remove(key(1, 1, 1), YES), SAVED);
     assert_eq!(table.add(key(1, 1, 3), 0, YES, &[], &[]), SAVED);
     // The last place is free, and within the share of fabric 3 alone.
     refused(table, 0x89, |t| t.add(key(1, 1, 4), 0, YES, &[], &[]));
-    assert_eq!(table.store(key(3, 1, 4), YES, &[]), SAVED);
+    assert_eq!(table.store(key(3, 1, 4), YES, &[]), stored(4));
     refused(table, 0x89, |t| t.store(key(2, 1, 4), YES, &[]));
 }
 
@@ -408,8 +428,8 @@ fn modes_are_kept() {
 #[test]
 fn remove_fabric() {
     let table = &mut Scenes::<16>::new();
-    assert_eq!(table.store(key(1, 1, 5), YES, b"one"), SAVED);
-    assert_eq!(table.store(key(2, 1, 5), YES, b"two"), SAVED);
+    assert_eq!(table.store(key(1, 1, 5), YES, b"one"), stored(0));
+    assert_eq!(table.store(key(2, 1, 5), YES, b"two"), stored(1));
     refused(table, 1, |t| t.remove_fabric(0));
     assert_eq!(table.remove_fabric(3), UNSAVED);
     assert_eq!(table.remove_fabric(1), SAVED);
@@ -422,7 +442,7 @@ fn remove_fabric() {
 #[test]
 fn lifecycle() {
     let table = &mut with::<16>(&[5]);
-    assert_eq!(table.store(key(1, 1, 6), YES, &[]), SAVED);
+    assert_eq!(table.store(key(1, 1, 6), YES, &[]), stored(1));
     let before = table.clone();
     assert_eq!((table.fail_safe_commit(), table.fail_safe_expiry()), (UNSAVED, UNSAVED));
     assert_eq!(*table, before);
@@ -442,7 +462,7 @@ fn memory_that_was_copied_comes_back() {
 #[test]
 fn a_saved_table_comes_back() {
     let table = &mut with::<16>(&[5, 6, 7]);
-    assert_eq!(table.store(key(2, 1, 9), YES, &[1, 2, 3]), SAVED);
+    assert_eq!(table.store(key(2, 1, 9), YES, &[1, 2, 3]), stored(3));
     assert_eq!(table.recall(key(1, 1, 6), YES, Applied::Yes), SAVED);
     let (mut first, mut again) = ([0xEE; Scenes::<16>::IMAGE_MAX], [0; Scenes::<16>::IMAGE_MAX]);
     let image = table.save(&mut first).unwrap();
@@ -474,9 +494,9 @@ fn save() {
 #[test]
 fn a_load_of_no_bytes_is_a_startup() {
     let table = &mut with::<16>(&[5, 6]);
-    assert_eq!(table.store(key(1, 1, 7), YES, &[1, 2, 3]), SAVED);
+    assert_eq!(table.store(key(1, 1, 7), YES, &[1, 2, 3]), stored(2));
     assert_eq!(table.factory_reset(), UNSAVED);
-    assert_eq!(table.store(key(1, 1, 8), YES, &[4, 5]), SAVED);
+    assert_eq!(table.store(key(1, 1, 8), YES, &[4, 5]), stored(0));
     let started = &mut table.clone();
     assert_eq!(started.startup(), UNSAVED);
     assert_eq!(table.load(&[]), UNSAVED);

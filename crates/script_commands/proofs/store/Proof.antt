@@ -1,10 +1,8 @@
 -- `script_commands::store` meets its contract. Assumes nothing.
-use mathlib.Core.Path.{_∙_}
+use mathlib.Core.Path.{ap, _∙_}
 use Rattle.state.specs.Table.{Table, tableOf}
-use Rattle.commands.specs.Commands.{storeScene}
-use Rattle.script_answers.specs.Done.{plain}
-use Rattle.script_commands.specs.Commands.{store}
-use Rattle.script_answers.proofs.DoneLaws.{plain-done}
+use Rattle.commands.specs.Counted.{storeCounted}
+use Rattle.script_commands.specs.Commands.{storeDone, store}
 use borrow.Author.Needs.{needs}
 use Rattle.script_commands.proofs.store.Statement.{statement}
 use Rattle.script_commands.proofs.store.Tie as tie
@@ -22,7 +20,7 @@ key c = c .before .before
 abbrev member : tie.After-store-scene → tie.After-member
 member c = c .before .before .before .before .before
 
-abbrev call : tie.After-plain → tie.After-store-scene
+abbrev call : tie.After-after → tie.After-store-scene
 call c = c .before .before .before .before .before .before .before .before .before
 
 -- the table that came in
@@ -34,9 +32,8 @@ unfolding store
 returns c =
     let m = member (call c) in
     let p = captured (key m) in
-    plain-done _ _ _ _ _ _ (storeScene (key m .scene-key .result) (m .member .result) (p .part .result .now) (came (start p)))
-    (c .plain .ensures) (call c .store-scene .ensures)
-    ∙ (λ i. plain (storeScene (key m .scene-key .ensures i) (m .member .ensures i) (p .part .ensures i) (came (start p))))
+    ap storeDone (call c .store-scene .ensures)
+    ∙ (λ i. storeDone (storeCounted (key m .scene-key .ensures i) (m .member .ensures i) (p .part .ensures i) (came (start p))))
 
 pub store-spec : {M : Type 1} → statement M
 store-spec =
@@ -47,7 +44,6 @@ store-spec =
     (λ c κs. search needs)
     (λ c κs. search needs)
     (λ c. search needs)
-    (λ c κs. search needs)
     (λ c κs. search needs)
     (λ c κs. search needs)
     (λ c. search needs)

@@ -3,21 +3,21 @@ use Prim.Native.Nat.{_≤_, _-_}
 use mathlib.Core.Path.{_≡_, sym, _∙_}
 use mathlib.Core.Bool.{true, not}
 use native.Mathlib.Omega.{arith}
-use Rattle.words.proofs.Below.{every-none, every-block}
+use Rattle.words.proofs.Below.{every-block}
 use Rattle.words.specs.Below.{everyBelow}
 use Rattle.slots.specs.Slots.{entrySound}
-use Rattle.slots.proofs.Laws.{four-any}
+use Rattle.slots.proofs.Laws.{eight-any}
 use Rattle.slots.proofs.sound_blocks.Statement.{statement}
 use Rattle.slots.proofs.sound_blocks.Tie as tie
 
 abbrev Inv-loop : tie.InvT-loop
-Inv-loop keys fields n i₀ i = (i ≤ n) × (everyBelow (λ k. entrySound keys fields k) i ≡ true)
+Inv-loop keys fields from n i₀ i = (i ≤ n) × (everyBelow (λ k. entrySound keys fields k) i ≡ true)
 
 abbrev μ-loop : tie.MeasureT-loop
-μ-loop keys fields n i₀ i = n - i
+μ-loop keys fields from n i₀ i = n - i
 
 loop-holds : tie.Need-loop-holds Inv-loop μ-loop
-loop-holds c = (omega arith, every-none _)
+loop-holds c = let s = c .before .before in (s .pre .0, s .pre .1 .1 .1)
 
 sub-loop : tie.Need-sub-loop Inv-loop μ-loop
 sub-loop c = omega arith
@@ -38,8 +38,8 @@ loop-again : tie.Need-loop-again Inv-loop μ-loop
 loop-again c =
     let at = c .before .before .before in
     let a = at .before .before .before .args in
-    let none = four-any (λ i. not (entrySound (a .keys .now) (a .fields .now) i)) (at .loop .i) ∙ sym (c .before .unsound-in-block .ensures) ∙ c .if1 .left in
-    (omega arith, every-block _ _ 4 none (at .loop .inv .1))
+    let none = eight-any (λ i. not (entrySound (a .keys .now) (a .fields .now) i)) (at .loop .i) ∙ sym (c .before .unsound-in-block .ensures) ∙ c .if1 .left in
+    (omega arith, every-block _ _ 8 none (at .loop .inv .1))
 
 returns-2 : tie.Need-returns-2 Inv-loop μ-loop
 returns-2 c = c .before .loop .inv

@@ -1,13 +1,15 @@
 -- `Commands::store_scene` meets its contract. Assumes nothing.
-use mathlib.Core.Path.{_∙_}
+use mathlib.Core.Path.{ap, _∙_}
 use native.Mathlib.Omega.{arith}
 use lib.ListN.{length}
 use Rattle.words.specs.Constants.{maxFields}
 use Rattle.requests.specs.Requests.{storeGate}
 use Rattle.requests.proofs.Passed.{store-passed}
 use Rattle.state.specs.Table.{Table, tableOf}
-use Rattle.state.proofs.Guard.{Admitted, admits, refuses-outcome}
+use Rattle.state.proofs.Guard.{Admitted, admits}
 use Rattle.commands.specs.Commands.{storeScene}
+use Rattle.commands.specs.Counted.{counted, storeCounted}
+use Rattle.commands.proofs.Counting.{counts-refused}
 use borrow.Author.Needs.{needs}
 use Rattle.commands.proofs.Commands.store_scene.Statement.{statement}
 use Rattle.commands.proofs.Commands.store_scene.Tie as tie
@@ -16,7 +18,7 @@ use Rattle.commands.proofs.Commands.store_scene.Tie as tie
 abbrev start : tie.After-store-gate → tie.Start
 start c = c .before .before .before .before .before .before .before
 
-abbrev gated : tie.After-unsaved → tie.After-store-gate
+abbrev gated : tie.After-refused → tie.After-store-gate
 gated c = c .before .before
 
 abbrev passed : tie.After-store-captured-arg4 → tie.Else1
@@ -31,18 +33,25 @@ came c = let a = start c .args in tableOf (a .self .state) (a .keys .now) (a .ti
 
 admitted : (c : tie.Else1)
     → (let a = start (c .before) .args in Admitted (came (c .before)) (storeGate (a .key) (a .member) maxFields (length (a .captured .now))))
-admitted c = admits _ (start (c .before) .pre) _ _ (c .before .store-gate .ensures) (c .if1 .left)
+admitted c = admits _ (start (c .before) .pre .0) _ _ (c .before .store-gate .ensures) (c .if1 .left)
 
 returns : tie.Need-returns
-unfolding storeScene
-returns c = refuses-outcome (came (gated c)) (start (gated c) .pre) _ _ (gated c .store-gate .ensures) _ _ (c .unsaved .ensures) (c .before .if1 .taken)
+unfolding storeScene storeCounted
+returns c =
+    let g = gated c in
+    let s = start g in
+    counts-refused (s .args .key) (came g) _ _ _ (s .pre .0) _ (g .store-gate .ensures) (c .refused .ensures) (c .before .if1 .taken)
 
 store-captured-requires : tie.Need-store-captured-requires
-store-captured-requires c κs = let h = admitted (passed c) in (h .room, omega (arith, store-passed _ _ _ _ (h .asked) .1))
+store-captured-requires c κs =
+    let h = admitted (passed c) in
+    (h .room, (start (passed c .before) .pre .1, omega (arith, store-passed _ _ _ _ (h .asked) .1)))
 
 returns-2 : tie.Need-returns-2
-unfolding storeScene
-returns-2 c = stored c .store-captured .ensures ∙ admitted (passed (stored c .before)) .answers _ _
+unfolding storeScene storeCounted
+returns-2 c =
+    let p = passed (stored c .before) in
+    stored c .store-captured .ensures ∙ ap (counted (start (p .before) .args .key) (came (p .before))) (admitted p .answers _ _)
 
 pub store-scene-spec : {M : Type 1} → statement M
 store-scene-spec =

@@ -21,7 +21,7 @@ ended c = c .before .before
 
 -- what the tail makes of a sheet
 abbrev tails : tie.After-put-head → Sheet → Sheet
-tails c = let a = start c .args in tailOf (a .answer .tail) (a .buffer .now) (a .fields .now)
+tails c = let a = start c .args in tailOf (a .trace) (a .answer .tail) (a .buffer .now) (a .fields .now)
 
 returns : tie.Need-returns
 unfolding answerLine

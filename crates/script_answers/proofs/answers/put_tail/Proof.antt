@@ -24,6 +24,9 @@ tail3 c = c .before .before .before
 abbrev tail4 : tie.After-put-image → tie.After-tail4
 tail4 c = c .before .before .before
 
+abbrev tail5 : tie.After-put-compared → tie.After-tail5
+tail5 c = c .before .before .before
+
 put-scene-requires : tie.Need-put-scene-requires
 put-scene-requires c κs = let t = c .before .before in subst fits (t .tail .given .1) (start t .pre) .0
 
@@ -45,6 +48,9 @@ returns-5 c = let put = c .before .before in rw (tail3 put .tail3 .given .1) (pu
 returns-6 : tie.Need-returns-6
 returns-6 c = let put = c .before .before in rw (tail4 put .tail4 .given .1) (put .put-image .ensures)
 
+returns-7 : tie.Need-returns-7
+returns-7 c = let put = c .before .before in rw (tail5 put .tail5 .given .1) (put .put-compared .ensures)
+
 pub put-tail-spec : {M : Type 1} → statement M
 put-tail-spec =
     tie.close
@@ -61,6 +67,8 @@ put-tail-spec =
     (λ c κs. search needs)
     (λ c. search needs)
     (λ c κs. search needs)
+    (λ c. search needs)
+    (λ c κs. search needs)
     returns
     (λ c. search needs)
     returns-2
@@ -71,4 +79,6 @@ put-tail-spec =
     (λ c. search needs)
     returns-5
     (λ c. search needs)
-    returns-6)
+    returns-6
+    (λ c. search needs)
+    returns-7)
