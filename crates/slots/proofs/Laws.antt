@@ -20,7 +20,7 @@ use Rattle.words.specs.declared.KeyRange.{KeyRange}
 use Rattle.words.specs.declared.Found.{Found}
 use Rattle.slots.specs.declared.Search.{Search}
 use Rattle.slots.specs.declared.Search.the-variants.{Sound, Unsound}
-use Rattle.slots.specs.Slots.{Slots, keySound, searched, ofEight, countKeys, lengthAt, fieldsAt, lengthThen, part, overlay, laid, chunks, gathered, outside, scenesInside, copySlot}
+use Rattle.slots.specs.Slots.{Slots, keySound, searched, ofFour, ofEight, countKeys, lengthAt, fieldsAt, lengthThen, part, overlay, laid, chunks, gathered, outside, scenesInside, copySlot}
 
 -- ---- a sound key word, by its upper half
 
@@ -51,6 +51,10 @@ over-tested m x =
     ]) refl
 
 -- ---- the positions of a block
+
+pub four-any : (p : ℕ → Bool) (i : ℕ) → anyBelow (λ j. p (i + j)) 4 ≡ ofFour p i
+unfolding anyBelow
+four-any p i = let e : i + 0 ≡ i = omega arith in rw e
 
 pub eight-any : (p : ℕ → Bool) (i : ℕ) → anyBelow (λ j. p (i + j)) 8 ≡ ofEight p i
 unfolding anyBelow

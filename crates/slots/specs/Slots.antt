@@ -54,9 +54,12 @@ entrySound keys fields i = keySound (getD keys i 0) && leb (lengthAt fields i) m
 abbrev pub searched : Bool → Found → Search
 searched sound found = cond sound (Sound found) Unsound
 
--- whether p holds at one of eight positions from i on: how a block is tested
+-- whether p holds at one of four, or of eight, positions from i on: how a block is tested
+abbrev pub ofFour : (ℕ → Bool) → ℕ → Bool
+ofFour p i = ((p i || p (i + 1)) || p (i + 2)) || p (i + 3)
+
 abbrev pub ofEight : (ℕ → Bool) → ℕ → Bool
-ofEight p i = ((((((p i || p (i + 1)) || p (i + 2)) || p (i + 3)) || p (i + 4)) || p (i + 5)) || p (i + 6)) || p (i + 7)
+ofEight p i = (((ofFour p i || p (i + 4)) || p (i + 5)) || p (i + 6)) || p (i + 7)
 
 -- the n bytes from a position on
 abbrev pub part : ℕ → ℕ → List ℕ → List ℕ

@@ -13,7 +13,7 @@ ghost use Rattle.words.specs.Constants.{stride, maxFields};
 ghost use lib.Dec.{eqb, leb};
 ghost use Rattle.words.specs.Below.{everyBelow};
 ghost use Rattle.words.specs.declared.Found.the-variants.{Nothing};
-ghost use Rattle.slots.specs.Slots.{firstKey, countKeys, keysSound, lengthsSound, entrySound, searched, ofEight, lengthAt, fieldsAt, laid, scenesInside};
+ghost use Rattle.slots.specs.Slots.{firstKey, countKeys, keysSound, lengthsSound, entrySound, searched, ofFour, ofEight, lengthAt, fieldsAt, laid, scenesInside};
 
 // What one walk over the entries tells: that one of them is not sound, or that all are and where a key word stands.
 pub enum Search {
@@ -117,23 +117,19 @@ fn is_unsound(keys: &[u64], fields: &[u8], at: usize) -> bool
     (KeyWord::UPPERS <= past_first as u32) | (Limits::MAX_EXT_FIELDS_LEN < len)
 }
 
-// Whether one of the eight entries from a position on is not sound.
+// Whether one of the four entries from a position on is not sound.
 fn unsound_in_block(keys: &[u64], fields: &[u8], at: usize) -> bool
-    requires { ⌜ at + 8 ≤ length (now keys) ⌝ }
-    requires { ⌜ (at + 8) * stride ≤ length (now fields) ⌝ }
-    ensures { λ r. ⌜ r ≡ ofEight (λ i. not (entrySound (now (keys .entry)) (now (fields .entry)) i)) at ⌝ }
+    requires { ⌜ at + 4 ≤ length (now keys) ⌝ }
+    requires { ⌜ (at + 4) * stride ≤ length (now fields) ⌝ }
+    ensures { λ r. ⌜ r ≡ ofFour (λ i. not (entrySound (now (keys .entry)) (now (fields .entry)) i)) at ⌝ }
 {
     is_unsound(keys, fields, at)
         | is_unsound(keys, fields, at + 1)
         | is_unsound(keys, fields, at + 2)
         | is_unsound(keys, fields, at + 3)
-        | is_unsound(keys, fields, at + 4)
-        | is_unsound(keys, fields, at + 5)
-        | is_unsound(keys, fields, at + 6)
-        | is_unsound(keys, fields, at + 7)
 }
 
-// A position of the first n, found in steps of eight from one on below which every entry is sound, of which the same holds.
+// A position of the first n, found in steps of four from one on below which every entry is sound, of which the same holds.
 fn sound_blocks(keys: &[u64], fields: &[u8], from: usize, n: usize) -> usize
     requires { ⌜ from ≤ n ⌝ }
     requires { ⌜ n ≤ length (now keys) ⌝ }
@@ -142,11 +138,11 @@ fn sound_blocks(keys: &[u64], fields: &[u8], from: usize, n: usize) -> usize
     ensures { λ r. ⌜ (r ≤ n) × (everyBelow (λ i. entrySound (now (keys .entry)) (now (fields .entry)) i) r ≡ true) ⌝ }
 {
     let mut i = from;
-    while 8 <= n - i {
+    while 4 <= n - i {
         if unsound_in_block(keys, fields, i) {
             return i;
         }
-        i += 8;
+        i += 4;
     }
     i
 }
@@ -159,7 +155,7 @@ fn sound_from(keys: &[u64], fields: &[u8], from: usize, n: usize) -> bool
     requires { ⌜ everyBelow (λ i. entrySound (now keys) (now fields) i) from ≡ true ⌝ }
     ensures { λ r. ⌜ r ≡ (keysSound (now (keys .entry)) n && lengthsSound (now (fields .entry)) n) ⌝ }
 {
-    let mut i = sound_blocks(keys, fields, from, n);
+    let mut i = from;
     while i < n {
         if is_unsound(keys, fields, i) {
             return false;
@@ -175,7 +171,8 @@ pub fn entries_sound(keys: &[u64], fields: &[u8], n: usize) -> bool
     requires { ⌜ n * stride ≤ length (now fields) ⌝ }
     ensures { λ r. ⌜ r ≡ (keysSound (now (keys .entry)) n && lengthsSound (now (fields .entry)) n) ⌝ }
 {
-    sound_from(keys, fields, 0, n)
+    let from = sound_blocks(keys, fields, 0, n);
+    sound_from(keys, fields, from, n)
 }
 
 // A position of the first n, found in steps of eight, below which every entry is sound and the key word does not stand.
@@ -188,7 +185,13 @@ fn pass_blocks(keys: &[u64], fields: &[u8], n: usize, key: u64) -> usize
 {
     let mut i = 0;
     while 8 <= n - i {
-        if unsound_in_block(keys, fields, i) | in_block(keys, i, key) {
+        if in_block(keys, i, key) {
+            return i;
+        }
+        if unsound_in_block(keys, fields, i) {
+            return i;
+        }
+        if unsound_in_block(keys, fields, i + 4) {
             return i;
         }
         i += 8;
@@ -205,7 +208,8 @@ pub fn search_entries(keys: &[u64], fields: &[u8], n: usize, key: u64) -> Search
         ⌜ r ≡ searched every (firstKey (now (keys .entry)) n key) ⌝ }
 {
     let from = pass_blocks(keys, fields, n, key);
-    if sound_from(keys, fields, from, n) {
+    let tested = sound_blocks(keys, fields, from, n);
+    if sound_from(keys, fields, tested, n) {
         return Search::Sound(find_from(keys, from, n, key));
     }
     Search::Unsound

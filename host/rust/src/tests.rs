@@ -95,14 +95,13 @@ fn modes_arrive() {
 // A refused store of a scene that is there, and one for which there is no place, count nothing.
 #[test]
 fn a_refused_store_counts_none() {
-    let mut table = Scenes::<2>::new();
-    let key = |scene| SceneKey { fabric: 0x12, endpoint: 0x3456, group: 0x789A, scene };
+    let (keys, times, fields, records) = (&mut [0; 2], &mut [0; 2], &mut [0; 2 * STRIDE], &mut [0; 2]);
+    let mut state = ffi::new(2);
     let mut stored = |scene, member, captured: &[u8]| {
-        let (state, lent) = table.lend();
-        let done = ffi::store(state, lent, key(scene), member, captured);
-        let answer = (done.status, done.save, done.compared);
-        let _ = table.done(Outcome { state: done.state, status: done.status, save: done.save });
-        answer
+        let key = SceneKey { fabric: 0x12, endpoint: 0x3456, group: 0x789A, scene };
+        let done = ffi::store(state, LentMut { keys, times, fields, records }, key, member, captured);
+        state = done.state;
+        (done.status, done.save, done.compared)
     };
     assert_eq!([stored(1, 1, &[]), stored(2, 1, &[])], [(0, 1, 0), (0, 1, 1)]);
     assert_eq!([stored(2, 0, &[]), stored(2, 2, &[]), stored(2, 1, &[0; 128])], [(0x85, 0, 0), (2, 0, 0), (3, 0, 0)]);

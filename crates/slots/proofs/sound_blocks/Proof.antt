@@ -6,7 +6,7 @@ use native.Mathlib.Omega.{arith}
 use Rattle.words.proofs.Below.{every-block}
 use Rattle.words.specs.Below.{everyBelow}
 use Rattle.slots.specs.Slots.{entrySound}
-use Rattle.slots.proofs.Laws.{eight-any}
+use Rattle.slots.proofs.Laws.{four-any}
 use Rattle.slots.proofs.sound_blocks.Statement.{statement}
 use Rattle.slots.proofs.sound_blocks.Tie as tie
 
@@ -38,8 +38,8 @@ loop-again : tie.Need-loop-again Inv-loop μ-loop
 loop-again c =
     let at = c .before .before .before in
     let a = at .before .before .before .args in
-    let none = eight-any (λ i. not (entrySound (a .keys .now) (a .fields .now) i)) (at .loop .i) ∙ sym (c .before .unsound-in-block .ensures) ∙ c .if1 .left in
-    (omega arith, every-block _ _ 8 none (at .loop .inv .1))
+    let none = four-any (λ i. not (entrySound (a .keys .now) (a .fields .now) i)) (at .loop .i) ∙ sym (c .before .unsound-in-block .ensures) ∙ c .if1 .left in
+    (omega arith, every-block _ _ 4 none (at .loop .inv .1))
 
 returns-2 : tie.Need-returns-2 Inv-loop μ-loop
 returns-2 c = c .before .loop .inv

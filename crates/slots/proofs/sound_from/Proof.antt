@@ -16,11 +16,8 @@ Inv-loop keys fields from n i₀ i = (i ≤ n) × (everyBelow (λ k. entrySound 
 abbrev μ-loop : tie.MeasureT-loop
 μ-loop keys fields from n i₀ i = n - i
 
-sound-blocks-requires : tie.Need-sound-blocks-requires Inv-loop μ-loop
-sound-blocks-requires c κs = c .before .before .pre
-
 loop-holds : tie.Need-loop-holds Inv-loop μ-loop
-loop-holds c = c .sound-blocks .ensures
+loop-holds c = let s = c .before .before in (s .pre .0, s .pre .1 .1 .1)
 
 is-unsound-requires : tie.Need-is-unsound-requires Inv-loop μ-loop
 is-unsound-requires c κs = (omega arith, omega arith)
@@ -45,7 +42,7 @@ returns-2 : tie.Need-returns-2 Inv-loop μ-loop
 unfolding keysSound lengthsSound
 returns-2 c =
     let at = c .before in
-    let e : at .loop .i ≡ at .before .before .before .before .args .n = omega arith in
+    let e : at .loop .i ≡ at .before .before .before .args .n = omega arith in
     rw (← e) (sym (at .loop .inv .1) ∙ every-both _ _ _)
 
 pub sound-from-spec : {M : Type 1} → statement M
@@ -54,7 +51,6 @@ sound-from-spec =
     (tie.spec
     Inv-loop
     μ-loop
-    sound-blocks-requires
     loop-holds
     is-unsound-requires
     returns
