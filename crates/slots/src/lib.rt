@@ -183,20 +183,20 @@ fn pass_blocks(keys: &[u64], fields: &[u8], n: usize, key: u64) -> usize
         let every = everyBelow (λ i. entrySound (now (keys .entry)) (now (fields .entry)) i) r in
         ⌜ (r ≤ n) × (every ≡ true) × (firstKey (now (keys .entry)) r key ≡ Nothing) ⌝ }
 {
-    let mut i = 0;
-    while 8 <= n - i {
-        if in_block(keys, i, key) {
-            return i;
+    let mut at = 0;
+    while 8 <= n - at {
+        if in_block(keys, at, key) {
+            return at;
         }
-        if unsound_in_block(keys, fields, i) {
-            return i;
+        if unsound_in_block(keys, fields, at) {
+            return at;
         }
-        if unsound_in_block(keys, fields, i + 4) {
-            return i;
+        if unsound_in_block(keys, fields, at + 4) {
+            return at;
         }
-        i += 8;
+        at += 8;
     }
-    i
+    at
 }
 
 // Whether each of the first n entries is sound and, if so, the first position that holds the key word: one walk over the key words.

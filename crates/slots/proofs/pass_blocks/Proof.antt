@@ -1,4 +1,4 @@
--- `slots::pass_blocks` meets its contract: below i each entry is sound, and no position holds the key word. Assumes nothing.
+-- `slots::pass_blocks` meets its contract: below `at` each entry is sound, and no position holds the key word. Assumes nothing.
 use Prim.Native.Nat.{ℕ, _≤_, _+_, _-_}
 use mathlib.Core.Path.{_≡_, sym, _∙_}
 use mathlib.Core.Bool.{Bool, true, not}
@@ -14,10 +14,10 @@ use Rattle.slots.proofs.pass_blocks.Statement.{statement}
 use Rattle.slots.proofs.pass_blocks.Tie as tie
 
 abbrev Inv-loop : tie.InvT-loop
-Inv-loop keys fields n key i₀ i = (i ≤ n) × (everyBelow (λ k. entrySound keys fields k) i ≡ true) × (firstKey keys i key ≡ Nothing)
+Inv-loop keys fields n key at₀ at = (at ≤ n) × (everyBelow (λ k. entrySound keys fields k) at ≡ true) × (firstKey keys at key ≡ Nothing)
 
 abbrev μ-loop : tie.MeasureT-loop
-μ-loop keys fields n key i₀ i = n - i
+μ-loop keys fields n key at₀ at = n - at
 
 loop-holds : tie.Need-loop-holds Inv-loop μ-loop
 unfolding firstKey
@@ -47,8 +47,8 @@ returns-2 c = c .before .before .before .before .before .loop .inv
 returns-3 : tie.Need-returns-3 Inv-loop μ-loop
 returns-3 c = c .before .before .before .before .before .before .before .loop .inv
 
-add-i : tie.Need-add-i Inv-loop μ-loop
-add-i c = omega arith
+add-at : tie.Need-add-at Inv-loop μ-loop
+add-at c = omega arith
 
 loop-less : tie.Need-loop-less Inv-loop μ-loop
 loop-less c = omega arith
@@ -57,15 +57,15 @@ loop-again : tie.Need-loop-again Inv-loop μ-loop
 unfolding firstKey
 loop-again c =
     let first = c .before .before in
-    let held-at = first .before .before in
-    let at = held-at .before .before .before in
-    let a = at .before .before .before .args in
-    let i = at .loop .i in
-    let inv = at .loop .inv in
+    let compared = first .before .before in
+    let turn = compared .before .before .before in
+    let a = turn .before .before .before .args in
+    let i = turn .loop .at in
+    let inv = turn .loop .inv in
     let test : ℕ → Bool = λ k. not (entrySound (a .keys .now) (a .fields .now) k) in
     let four = every-block _ i 4 (four-any test i ∙ sym (first .before .unsound-in-block .ensures) ∙ first .if2 .left) (inv .1) in
     let eight = every-block _ (i + 4) 4 (four-any test (i + 4) ∙ sym (c .before .unsound-in-block2 .ensures) ∙ c .if3 .left) four in
-    let held = eight-any (λ k. eqb (getD (a .keys .now) k 0) (a .key)) i ∙ sym (held-at .before .in-block .ensures) ∙ held-at .if1 .left in
+    let held = eight-any (λ k. eqb (getD (a .keys .now) k 0) (a .key)) i ∙ sym (compared .before .in-block .ensures) ∙ compared .if1 .left in
     let e : i + 4 + 4 ≡ i + 8 = omega arith in
     (omega arith, rw (← e) eight, first-block _ _ 8 held (inv .2))
 
@@ -87,7 +87,7 @@ pass-blocks-spec =
     add-unsound-in-block
     unsound-in-block-requires-2
     returns-3
-    add-i
+    add-at
     loop-less
     loop-again
     returns-4)
