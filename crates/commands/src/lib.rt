@@ -1,5 +1,5 @@
-// The commands that change a table that is known to be sound, apart from copies. Each has that one condition, which the outward call of
-// the same name meets by a test.
+// The commands that change a table that is known to be sound, apart from copies. Each has that one condition, and store a second, where its
+// scene stands. The outward call of the same name meets them by its test.
 use records::Scope;
 use requests::Membership;
 use state::Outcome;

@@ -1,10 +1,9 @@
 -- `ScenesState::search` meets its contract. Assumes nothing.
-use mathlib.Core.Path.{_≡_, sym, ap, _∙_}
+use mathlib.Core.Path.{_≡_, sym, _∙_}
 use mathlib.Core.Bool.{Bool, true, false, _&&_}
 use mathlib.Core.List.{[], _∷_}
 use native.Mathlib.Omega.{arith}
 use Rattle.words.specs.Conditions.{allOf}
-use Rattle.slots.specs.Slots.{searched}
 use Rattle.words.proofs.Tests.{and-true, and-false}
 use Rattle.state.specs.Sound.{sound}
 use Rattle.state.proofs.Laws.{in-bounds}
