@@ -17,7 +17,7 @@ use Rattle.state.specs.Table.{Table}
 use Rattle.state.specs.Sound.{sound}
 use Rattle.state.specs.Change.{findScene}
 use Rattle.state.specs.Answer.{Result, resultOf, refused, refusalOf, guarded}
-use Rattle.state.proofs.Guard.{refuses, answers-unsound}
+use Rattle.state.proofs.Guard.{Admitted, refuses, answers-unsound}
 use Rattle.state.proofs.Laws.{found-under}
 use Rattle.commands.specs.declared.Stored.{Stored}
 use Rattle.commands.specs.Commands.{storeScene}
@@ -40,6 +40,11 @@ module _ (key : SceneKey) (t : Table) (r : Result) where
 pub compared-within : (key : SceneKey) (t : Table) (f : Found) → f ≡ findScene key t → keysCompared f (t .state .entries) ≤ t .state .entries
 compared-within key t (At p) e = omega (arith, found-under (t .slots .keys) (t .state .entries) (wordOf key) p (sym e))
 compared-within key t Nothing e = omega arith
+
+-- ---- a store that passed its gate: x is what the code answered
+pub counts-passed : (key : SceneKey) (t : Table) (gate : ℕ) (x : Counted) (body : Result) → Admitted t gate
+    → x ≡ counted key t body → x ≡ counted key t (guarded (refused t) (refusalOf t gate) body)
+counts-passed key t gate x body a e = e ∙ ap (counted key t) (a .answers (refused t) body)
 
 -- ---- a store that is refused: by the gate, g, on a sound table, or with 6. o is what the code answered
 

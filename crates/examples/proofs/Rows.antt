@@ -22,8 +22,9 @@ use Rattle.state.specs.Capacity.{roomFor, remaining}
 use Rattle.state.specs.Change.{findScene}
 use Rattle.state.specs.Answer.{refused, refusalOf, guarded}
 use Rattle.commands.specs.Commands.{removeFound, removeScene}
+use Rattle.commands.specs.Counted.{counted, storeCounted}
 use Rattle.copies.specs.Copy.{copyScenesInner, copyScene}
-use Rattle.examples.specs.Rows.{Row, Holds, EveryRow, rows, Naming, byAdd, byView, byRemove, byStore, byRecall, byLookup, bySource, byTarget, named, plain, passes, passing, reserved, capacity, longest, tooLong, noCopy, addWorks, midway, removed, versions, standing, outcome, sceneIn, abc, copyOf, oneOfThree, Copying, request}
+use Rattle.examples.specs.Rows.{Row, Holds, EveryRow, rows, Naming, byAdd, byView, byRemove, byStore, byRecall, byLookup, bySource, byTarget, named, plain, passes, passing, reserved, capacity, longest, tooLong, noCopy, addWorks, midway, removed, versions, counts, standing, outcome, sceneIn, abc, copyOf, oneOfThree, Copying, request}
 
 -- ---- the rows of one case
 
@@ -45,6 +46,10 @@ times = ((λ _. refl), ((λ _. refl), tt))
 calls : EveryRow (addWorks ∷ midway ∷ versions ∷ [])
 unfolding computing
 calls = ((λ _. refl), ((λ _. refl), ((λ _. refl), tt)))
+
+counts-row : Holds counts
+unfolding computing storeCounted counted
+counts-row c = refl
 
 -- keys a, b and c stand in a table that is sound
 abc-sound : sound abc ≡ true
@@ -186,8 +191,8 @@ joined (r ∷ rs) ss a b = (a .0, joined rs ss (a .1) b)
 
 pub every-row : EveryRow rows
 every-row =
-    let others : List Row = noCopy ∷ addWorks ∷ midway ∷ removed ∷ versions ∷ [] in
+    let others : List Row = noCopy ∷ addWorks ∷ midway ∷ removed ∷ versions ∷ counts ∷ [] in
     joined capacityRows (timeRows ++ sceneRows ++ others) capacities
     (joined timeRows (sceneRows ++ others) times
     (joined sceneRows others scenes
-    (no-copy, (calls .0, (calls .1 .0, (removed-row, (calls .1 .1 .0, tt)))))))
+    (no-copy, (calls .0, (calls .1 .0, (removed-row, (calls .1 .1 .0, (counts-row, tt))))))))

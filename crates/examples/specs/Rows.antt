@@ -1,5 +1,5 @@
--- Document 01, "Boxes on paper": the rows marked P, as one table, with the capacity row for N 1,024 of document 02, Q-4. Fabric 1,
--- endpoint 1, group 0, N 16 and membership yes unless said.
+-- Document 01, "Boxes on paper": the rows marked P, as one table, with the capacity row for N 1,024 of document 02, Q-4, and a row of what a
+-- store counts, by Q-6. Fabric 1, endpoint 1, group 0, N 16 and membership yes unless said.
 use Prim.Native.Nat.{ℕ}
 use mathlib.Core.Path.{_≡_}
 use mathlib.Core.Bool.{cond}
@@ -20,6 +20,7 @@ use Rattle.state.specs.Table.{Table, newState, emptyTable, entriesIn, withEntry
 use Rattle.state.specs.Capacity.{remaining}
 use Rattle.state.specs.Answer.{Result}
 use Rattle.commands.specs.Commands.{addScene, storeScene, removeScene, recallScene}
+use Rattle.commands.specs.Counted.{Counted, storeCounted}
 use Rattle.copies.specs.Copy.{copyScene}
 use Rattle.reads.specs.Reads.{viewScene, recallLookup}
 
@@ -174,6 +175,19 @@ stored t = storeScene (sceneIn 0 5) Yes [] t .table
 abbrev pub versions : Row
 versions = only (stored (emptyTable 16) .state .dataver ∷ stored (stored (emptyTable 16)) .state .dataver ∷ []) (1 ∷ 3 ∷ [])
 
+-- N 1, stores of scene 5, scene 5 and scene 6: 0 and 0 compared, 0 and 1, 0x89 and 0. So 0 is no sign of a refusal
+abbrev pub counting : ℕ → Table → Counted
+counting s t = storeCounted (sceneIn 0 s) Yes [] t
+
+abbrev pub statusAndCount : Counted → List ℕ
+statusAndCount c = c .result .status ∷ c .compared ∷ []
+
+abbrev pub counts : Row
+counts =
+    let one : Table = counting 5 (emptyTable 1) .result .table in
+    only (statusAndCount (counting 5 (emptyTable 1)) ++ statusAndCount (counting 5 one) ++ statusAndCount (counting 6 one))
+    (0 ∷ 0 ∷ 0 ∷ 1 ∷ 0x89 ∷ 0 ∷ [])
+
 -- ---- the table
 
 abbrev pub rows : List Row
@@ -196,6 +210,7 @@ rows =
     ∷ midway
     ∷ removed
     ∷ versions
+    ∷ counts
     ∷ []
 
 -- every row of a table holds

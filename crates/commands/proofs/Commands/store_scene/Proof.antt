@@ -1,5 +1,4 @@
 -- `Commands::store_scene` meets its contract. Assumes nothing.
-use mathlib.Core.Path.{ap, _∙_}
 use native.Mathlib.Omega.{arith}
 use lib.ListN.{length}
 use Rattle.words.specs.Constants.{maxFields}
@@ -8,8 +7,8 @@ use Rattle.requests.proofs.Passed.{store-passed}
 use Rattle.state.specs.Table.{Table, tableOf}
 use Rattle.state.proofs.Guard.{Admitted, admits}
 use Rattle.commands.specs.Commands.{storeScene}
-use Rattle.commands.specs.Counted.{counted, storeCounted}
-use Rattle.commands.proofs.Counting.{counts-refused}
+use Rattle.commands.specs.Counted.{storeCounted}
+use Rattle.commands.proofs.Counting.{counts-passed, counts-refused}
 use borrow.Author.Needs.{needs}
 use Rattle.commands.proofs.Commands.store_scene.Statement.{statement}
 use Rattle.commands.proofs.Commands.store_scene.Tie as tie
@@ -51,7 +50,7 @@ returns-2 : tie.Need-returns-2
 unfolding storeScene storeCounted
 returns-2 c =
     let p = passed (stored c .before) in
-    stored c .store-captured .ensures ∙ ap (counted (start (p .before) .args .key) (came (p .before))) (admitted p .answers _ _)
+    counts-passed (start (p .before) .args .key) (came (p .before)) _ _ _ (admitted p) (stored c .store-captured .ensures)
 
 pub store-scene-spec : {M : Type 1} → statement M
 store-scene-spec =
