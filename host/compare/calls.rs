@@ -1,6 +1,6 @@
 //! The first driver: every call. An add takes the pairs that a host listed, so that neither side reads its field bytes.
 use crate::dm::clusters::scenes::Sets;
-use crate::ffi::{self, LentMut, Outcome, State};
+use crate::ffi::{tested, unchecked, LentMut, Outcome, State};
 use crate::ours::YES;
 use crate::requests::SceneKey;
 use crate::rows::{entry, Plan, Row, Side, FIELDS, TIME};
@@ -35,8 +35,12 @@ pub fn sets(_: Fields) -> FieldSets<'static> {
     Sets { fields: &FIELDS, pairs: 2 }
 }
 
-pub fn add(state: State, lent: LentMut<'_>, key: SceneKey, _: Fields) -> Outcome {
-    ffi::add(state, lent, key, TIME, YES, &[YES, YES], &FIELDS)
+pub fn add<const TESTED: bool>(state: State, lent: LentMut<'_>, key: SceneKey, _: Fields) -> Outcome {
+    if TESTED {
+        return tested::add(state, lent, key, TIME, YES, &[YES, YES], &FIELDS);
+    }
+    // SAFETY: the table begins empty, and only calls write it.
+    unsafe { unchecked::add(state, lent, key, TIME, YES, &[YES, YES], &FIELDS) }
 }
 
 pub fn rows<S: Side>() -> Vec<Row<S>> {

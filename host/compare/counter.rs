@@ -4,7 +4,7 @@
 use std::hint::black_box;
 use std::path::PathBuf;
 
-use crate::report::Meter;
+use crate::report::{Costs, Meter, Sides};
 use crate::rows::{Plan, Row, Side};
 
 /// What callgrind counts.
@@ -20,17 +20,19 @@ fn once<S: Side>(side: &mut S, plan: Plan, call: fn(&mut S, Plan) -> u8) {
     side.restore();
 }
 
-/// Makes the calls: of a row ours, the published one, and one that does nothing.
+/// Makes the calls: of a row that of each side, and one that does nothing.
 pub struct Caller;
 
 impl Meter for Caller {
     const PASSES: usize = 1;
 
-    fn pair<A: Side, B: Side>(&mut self, a: &mut A, b: &mut B, plan: Plan, ra: &Row<A>, rb: &Row<B>) -> (f64, f64) {
-        once(a, plan, ra.call);
-        once(b, plan, rb.call);
-        once(a, plan, |_, _| 0);
-        (0.0, 0.0)
+    fn costs(&mut self, sides: &mut Sides<impl Side, impl Side, impl Side>, plan: Plan) -> Costs {
+        let Sides { tested, owner, published } = sides;
+        once(tested.0, plan, tested.1.call);
+        once(owner.0, plan, owner.1.call);
+        once(published.0, plan, published.1.call);
+        once(tested.0, plan, |_, _| 0);
+        Costs { tested: 0.0, owner: 0.0, published: 0.0 }
     }
 }
 
@@ -53,8 +55,8 @@ impl Counts {
 impl Meter for Counts {
     const PASSES: usize = 1;
 
-    fn pair<A: Side, B: Side>(&mut self, _: &mut A, _: &mut B, _: Plan, _: &Row<A>, _: &Row<B>) -> (f64, f64) {
-        let (ours, published, none) = (self.next(), self.next(), self.next());
-        (ours - none, published - none)
+    fn costs(&mut self, _: &mut Sides<impl Side, impl Side, impl Side>, _: Plan) -> Costs {
+        let [tested, owner, published, none] = std::array::from_fn(|_| self.next());
+        Costs { tested: tested - none, owner: owner - none, published: published - none }
     }
 }

@@ -1,6 +1,6 @@
-//! The exported calls, each with its soundness test. A recall is its two calls.
+//! The exported calls: those that test the table, and those that leave that to its owner. A recall is its two calls.
 use crate::driver::{self, Fields};
-use crate::ffi::{self, Lent, LentMut, Outcome, State};
+use crate::ffi::{self, tested, unchecked, Lent, LentMut, Outcome, State};
 use crate::requests::modes::SHARE;
 use crate::requests::{CopyRequest, GroupKey, SceneKey};
 use crate::rows::{image_max, Side, FIELDS};
@@ -17,7 +17,8 @@ struct Table {
     records: Vec<u64>,
 }
 
-pub struct Ours {
+/// A table that is tested at every call, or one whose owner alone writes it.
+pub struct Ours<const TESTED: bool> {
     now: Table,
     kept: Table,
     ids: [u8; 1024],
@@ -25,7 +26,14 @@ pub struct Ours {
     len: usize,
 }
 
-impl Ours {
+// SAFETY of an unchecked call: the table begins empty, and only calls write it.
+macro_rules! call {
+    ($name:ident($($passed:expr),*)) => {
+        if TESTED { tested::$name($($passed),*) } else { unsafe { unchecked::$name($($passed),*) } }
+    };
+}
+
+impl<const TESTED: bool> Ours<TESTED> {
     pub fn new(size: usize) -> Self {
         let now = Table {
             state: ffi::new(size),
@@ -53,28 +61,28 @@ impl Ours {
     }
 }
 
-impl Side for Ours {
+impl<const TESTED: bool> Side for Ours<TESTED> {
     fn add(&mut self, key: SceneKey, fields: Fields) -> u8 {
         let (state, lent) = self.lend();
-        let done = driver::add(state, lent, key, fields);
+        let done = driver::add::<TESTED>(state, lent, key, fields);
         self.done(done)
     }
     fn add_shared(&mut self, key: SceneKey, fields: Fields) -> u8 {
         let (state, lent) = self.lend();
-        let done = driver::add(State { modes: SHARE, ..state }, lent, key, fields);
+        let done = driver::add::<TESTED>(State { modes: SHARE, ..state }, lent, key, fields);
         self.done(done)
     }
     fn store(&mut self, key: SceneKey) -> u8 {
         let (state, lent) = self.lend();
-        let stored = ffi::store(state, lent, key, YES, &FIELDS[..15]);
+        let stored = call!(store(state, lent, key, YES, &FIELDS[..15]));
         self.now.state = stored.state;
         stored.status
     }
     fn view(&mut self, key: SceneKey) -> u8 {
-        ffi::view(self.now.state, self.lent(), key, YES).status
+        call!(view(self.now.state, self.lent(), key, YES)).status
     }
     fn view_fields(&mut self, key: SceneKey) -> u8 {
-        let read = ffi::view(self.now.state, self.lent(), key, YES);
+        let read = call!(view(self.now.state, self.lent(), key, YES));
         if read.status == 0 {
             self.ids[..read.len].copy_from_slice(&self.now.fields[read.at * STRIDE + 1..][..read.len]);
         }
@@ -82,54 +90,54 @@ impl Side for Ours {
     }
     fn remove(&mut self, key: SceneKey) -> u8 {
         let (state, lent) = self.lend();
-        let done = ffi::remove(state, lent, key, YES);
+        let done = call!(remove(state, lent, key, YES));
         self.done(done)
     }
     fn remove_all(&mut self, key: GroupKey) -> u8 {
         let (state, lent) = self.lend();
-        let done = ffi::remove_all(state, lent, key, YES);
+        let done = call!(remove_all(state, lent, key, YES));
         self.done(done)
     }
     fn copy(&mut self, request: CopyRequest) -> u8 {
         let (state, lent) = self.lend();
-        let done = ffi::copy(state, lent, request, YES, YES);
+        let done = call!(copy(state, lent, request, YES, YES));
         self.done(done)
     }
     fn recall(&mut self, key: SceneKey) -> u8 {
-        let found = ffi::recall_lookup(self.now.state, self.lent(), key, YES, 0, 0);
+        let found = call!(recall_lookup(self.now.state, self.lent(), key, YES, 0, 0));
         if found.status != 0 {
             return found.status;
         }
         let (state, lent) = self.lend();
-        let done = ffi::recall(state, lent, key, YES, 1);
+        let done = call!(recall(state, lent, key, YES, 1));
         self.done(done)
     }
     fn membership(&mut self, key: GroupKey) -> u8 {
         let Table { state, keys, times, fields, records } = &self.now;
-        ffi::get_membership(*state, Lent { keys, times, fields, records }, &mut self.ids, key, YES).status
+        call!(get_membership(*state, Lent { keys, times, fields, records }, &mut self.ids, key, YES)).status
     }
     fn info(&mut self, key: GroupKey) -> u8 {
-        ffi::read_info(self.now.state, self.lent(), key.fabric, key.endpoint, 0).status
+        call!(read_info(self.now.state, self.lent(), key.fabric, key.endpoint, 0)).status
     }
     fn notice(&mut self, endpoint: u16) -> u8 {
         let (state, lent) = self.lend();
-        let done = ffi::attribute_changed(state, lent, endpoint);
+        let done = call!(attribute_changed(state, lent, endpoint));
         self.done(done)
     }
     fn remove_fabric(&mut self, fabric: u8) -> u8 {
         let (state, lent) = self.lend();
-        let done = ffi::remove_fabric(state, lent, fabric);
+        let done = call!(remove_fabric(state, lent, fabric));
         self.done(done)
     }
     fn save(&mut self) -> u8 {
         let Table { state, keys, times, fields, records } = &self.now;
-        let saved = ffi::save_image(*state, Lent { keys, times, fields, records }, &mut self.buffer);
+        let saved = call!(save_image(*state, Lent { keys, times, fields, records }, &mut self.buffer));
         self.len = saved.len;
         saved.status
     }
     fn load(&mut self) -> u8 {
         let Table { state, keys, times, fields, records } = &mut self.now;
-        let done = ffi::load_image(*state, LentMut { keys, times, fields, records }, &self.buffer[..self.len]);
+        let done = call!(load_image(*state, LentMut { keys, times, fields, records }, &self.buffer[..self.len]));
         self.done(done)
     }
     fn image(&self) -> Vec<u8> {

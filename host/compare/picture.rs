@@ -1,4 +1,4 @@
-//! The cost of each row over N, as a picture: a panel for a row, both axes logarithmic, ours a line and the Rust's a dashed one.
+//! The cost of each row over N, as a picture: a panel for a row, both axes logarithmic, ours two lines and the Rust's a dashed one.
 use std::fmt::Write;
 
 const COLUMNS: usize = 5;
@@ -12,10 +12,11 @@ const BOTTOM: f64 = 18.0;
 /// The costs that a panel shows: from 1 to 10,000 nanoseconds.
 const DECADES: f64 = 4.0;
 
-/// A row's name, and its costs at each N: ours, and the Rust's.
+/// A row's name, and its costs at each N: of the call that tests the table, of the owner's, and of the Rust's.
 pub struct Panel {
     pub name: &'static str,
-    pub ours: Vec<f64>,
+    pub tested: Vec<f64>,
+    pub owner: Vec<f64>,
     pub published: Vec<f64>,
 }
 
@@ -56,7 +57,7 @@ pub fn svg(panels: &[Panel], sizes: &[usize]) -> String {
     let mut out = format!(
         "<svg xmlns=\"http://www.w3.org/2000/svg\" width=\"{width}\" height=\"{height}\">\n<style>text {{ font: 9px sans-serif; fill: #333 }} \
          .name {{ font-weight: bold }} .end {{ text-anchor: end }} .middle {{ text-anchor: middle }} path {{ stroke: #ddd }} \
-         polyline {{ fill: none; stroke-width: 1.6 }} .ours {{ stroke: #0063b1 }} .rust {{ stroke: #c05000; stroke-dasharray: 4 2 }}</style>\n\
+         polyline {{ fill: none; stroke-width: 1.6 }} .tested {{ stroke: #0063b1 }} .owner {{ stroke: #20a030 }} .rust {{ stroke: #c05000; stroke-dasharray: 4 2 }}</style>\n\
          <rect width=\"100%\" height=\"100%\" fill=\"white\"/>\n"
     );
     for (i, panel) in panels.iter().enumerate() {
@@ -68,11 +69,12 @@ pub fn svg(panels: &[Panel], sizes: &[usize]) -> String {
         );
         out += &grid(sizes);
         out += &line(&panel.published, "rust");
-        out += &line(&panel.ours, "ours");
+        out += &line(&panel.tested, "tested");
+        out += &line(&panel.owner, "owner");
         out += "</g>\n";
     }
     let _ = writeln!(out, "<g transform=\"translate({} {})\">", width - WIDTH, height - HEIGHT);
-    for (at, class, label) in [(40, "ours", "ours"), (60, "rust", "the published Rust")] {
+    for (at, class, label) in [(40, "tested", "tested"), (60, "owner", "the owner's"), (80, "rust", "the published Rust")] {
         let _ = writeln!(
             out,
             "<polyline class=\"{class}\" points=\"{LEFT},{at} 70,{at}\"/><text x=\"78\" y=\"{}\">{label}</text>",

@@ -1,7 +1,7 @@
 //! The second driver: adds by raw field bytes, which both sides read. It is one of its own since the compiler makes one `add` of the Rust's
 //! slower where there is another.
 use crate::dm::clusters::scenes::ExtensionFieldSetStruct;
-use crate::ffi::{self, Cursor, LentMut, Outcome, State};
+use crate::ffi::{self, tested, unchecked, Cursor, LentMut, Outcome, State};
 use crate::ours::YES;
 use crate::requests::SceneKey;
 use crate::rows::{Plan, Row, Side, TIME};
@@ -31,7 +31,7 @@ pub fn sets(array: Fields) -> FieldSets<'static> {
 const CLUSTER: u8 = 1;
 const ATTRIBUTE: u8 = 2;
 
-pub fn add(state: State, lent: LentMut<'_>, key: SceneKey, array: Fields) -> Outcome {
+pub fn add<const TESTED: bool>(state: State, lent: LentMut<'_>, key: SceneKey, array: Fields) -> Outcome {
     let bytes = &array[2..];
     let mut pairs = [0; 25];
     let mut count = 0;
@@ -43,7 +43,11 @@ pub fn add(state: State, lent: LentMut<'_>, key: SceneKey, array: Fields) -> Out
         }
         item = ffi::next_item(bytes, item.cursor);
     }
-    ffi::add_read(state, lent, key, TIME, YES, &pairs[..count], bytes)
+    if TESTED {
+        return tested::add_read(state, lent, key, TIME, YES, &pairs[..count], bytes);
+    }
+    // SAFETY: the table begins empty, and only calls write it.
+    unsafe { unchecked::add_read(state, lent, key, TIME, YES, &pairs[..count], bytes) }
 }
 
 /// Writes bytes at a position: the position behind them.

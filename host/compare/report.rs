@@ -7,11 +7,26 @@ use crate::published::Published;
 use crate::rows::{fill, Plan, Row, Side};
 use crate::timer::Timer;
 
-/// What a call of either side costs, without what a call costs that does nothing.
+/// The sides with the row that is measured: the call that tests the table, the owner's call, which does not, and the Rust's.
+pub struct Sides<'a, A, B, C> {
+    pub tested: (&'a mut A, &'a Row<A>),
+    pub owner: (&'a mut B, &'a Row<B>),
+    pub published: (&'a mut C, &'a Row<C>),
+}
+
+/// What a call of each costs.
+#[derive(Clone, Copy)]
+pub struct Costs {
+    pub tested: f64,
+    pub owner: f64,
+    pub published: f64,
+}
+
+/// What a call of each side costs, without what a call costs that does nothing.
 pub trait Meter {
     /// How often everything is measured: of each cell the pass counts in which the machine disturbed it least.
     const PASSES: usize;
-    fn pair<A: Side, B: Side>(&mut self, a: &mut A, b: &mut B, plan: Plan, ra: &Row<A>, rb: &Row<B>) -> (f64, f64);
+    fn costs(&mut self, sides: &mut Sides<impl Side, impl Side, impl Side>, plan: Plan) -> Costs;
 }
 
 const SIZES: [usize; 4] = [16, 64, 256, 1024];
@@ -37,27 +52,37 @@ const FILLINGS: [Filling; 4] = [
 ];
 
 struct Cell {
-    ours: f64,
-    published: f64,
+    costs: Costs,
     status: u8,
 }
 
+impl Cell {
+    fn sum(&self) -> f64 {
+        self.costs.tested + self.costs.owner + self.costs.published
+    }
+}
+
+/// Makes a row's call, which leaves the table as it was: what it answers.
+fn tried<S: Side>(side: &mut S, row: &Row<S>, plan: Plan) -> u8 {
+    let status = (row.call)(side, plan);
+    side.restore();
+    status
+}
+
 fn measure<const N: usize>(filling: &Filling, meter: &mut impl Meter) -> Vec<Cell> {
-    let mut ours = Ours::new(N);
-    let mut published = Published::<N>::new();
+    let (mut tested, mut owner, mut published) = (Ours::<true>::new(N), Ours::<false>::new(N), Published::<N>::new());
     let entries = N * filling.halves / 2;
-    fill(&mut ours, entries, filling.long);
+    fill(&mut tested, entries, filling.long);
+    fill(&mut owner, entries, filling.long);
     fill(&mut published, entries, filling.long);
-    assert!(ours.image() == published.image(), "the two sides save different images");
+    assert!(tested.image() == published.image() && owner.image() == published.image(), "the sides save different images");
     let plan = Plan { entries };
     let mut cells = Vec::new();
-    for (a, b) in filling.rows().iter().zip(&filling.rows()) {
-        let status = (a.call)(&mut ours, plan);
-        assert_eq!(status, (b.call)(&mut published, plan), "{}: the two sides answer differently", a.name);
-        ours.restore();
-        published.restore();
-        let (ours, published) = meter.pair(&mut ours, &mut published, plan, a, b);
-        cells.push(Cell { ours, published, status });
+    for ((a, b), c) in filling.rows().iter().zip(&filling.rows()).zip(&filling.rows()) {
+        let status = tried(&mut published, c, plan);
+        assert_eq!([tried(&mut tested, a, plan), tried(&mut owner, b, plan)], [status; 2], "{}: the sides answer differently", a.name);
+        let mut sides = Sides { tested: (&mut tested, a), owner: (&mut owner, b), published: (&mut published, c) };
+        cells.push(Cell { costs: meter.costs(&mut sides, plan), status });
     }
     cells
 }
@@ -77,19 +102,20 @@ fn print(filling: &Filling, columns: &[Vec<Cell>]) {
         return;
     }
     println!("\n### {}\n", filling.title);
-    println!("| call | N 16: ours, Rust, ratio | N 64 | N 256 | N 1,024 | growth 16 to 1,024: ours, Rust |");
+    println!("| call | N 16: tested, owner's, Rust; ratios | N 64 | N 256 | N 1,024 | growth 16 to 1,024: tested, owner's, Rust |");
     println!("|---|---|---|---|---|---|");
-    for (i, row) in filling.rows::<Ours>().iter().enumerate() {
+    for (i, row) in filling.rows::<Ours<true>>().iter().enumerate() {
         let cells: Vec<&Cell> = columns.iter().map(|column| &column[i]).collect();
         print!("| {}", row.name);
         if cells[0].status != 0 {
             print!(" (0x{:02X})", cells[0].status);
         }
-        for cell in &cells {
-            print!(" | {:.0}, {:.0}, {:.2}", cell.ours, cell.published, cell.ours / cell.published.max(0.1));
+        for Cell { costs: Costs { tested, owner, published }, .. } in &cells {
+            let rust = published.max(0.1);
+            print!(" | {tested:.0}, {owner:.0}, {published:.0}; {:.2}, {:.2}", tested / rust, owner / rust);
         }
-        let growth = |get: fn(&Cell) -> f64| get(cells[3]) / get(cells[0]).max(0.1);
-        println!(" | × {:.1}, × {:.1} |", growth(|c| c.ours), growth(|c| c.published));
+        let growth = |get: fn(&Costs) -> f64| get(&cells[3].costs) / get(&cells[0].costs).max(0.1);
+        println!(" | × {:.1}, × {:.1}, × {:.1} |", growth(|c| c.tested), growth(|c| c.owner), growth(|c| c.published));
     }
 }
 
@@ -111,7 +137,7 @@ fn tables<M: Meter>(meter: &mut M) -> Vec<Vec<Vec<Cell>>> {
     for _ in 1..M::PASSES {
         let cells = best.iter_mut().flatten().flatten();
         for (cell, other) in cells.zip(pass(meter).into_iter().flatten().flatten()) {
-            if other.ours + other.published < cell.ours + cell.published {
+            if other.sum() < cell.sum() {
                 *cell = other;
             }
         }
@@ -124,13 +150,15 @@ fn tables<M: Meter>(meter: &mut M) -> Vec<Vec<Vec<Cell>>> {
 
 /// Saves and loads are not in the picture: they would need another scale.
 fn panels(columns: &[Vec<Cell>]) -> Vec<Panel> {
-    let costs = |i: usize, cost: fn(&Cell) -> f64| columns.iter().map(|column| cost(&column[i])).collect();
-    let rows = rows::<Ours>();
-    rows.iter()
-        .enumerate()
-        .filter(|(_, row)| !row.image)
-        .map(|(i, row)| Panel { name: row.name, ours: costs(i, |c| c.ours), published: costs(i, |c| c.published) })
-        .collect()
+    let costs = |i: usize, cost: fn(&Costs) -> f64| columns.iter().map(|column| cost(&column[i].costs)).collect();
+    let rows = rows::<Ours<true>>();
+    let panel = |(i, row): (usize, &Row<_>)| Panel {
+        name: row.name,
+        tested: costs(i, |c| c.tested),
+        owner: costs(i, |c| c.owner),
+        published: costs(i, |c| c.published),
+    };
+    rows.iter().enumerate().filter(|(_, row)| !row.image).map(panel).collect()
 }
 
 /// `times PICTURE`: nanoseconds. `calls`: the calls alone, for callgrind. `counts FOLDER`: what callgrind counted.

@@ -3,10 +3,10 @@ use std::arch::x86_64::{_mm_lfence, _rdtsc};
 use std::hint::black_box;
 use std::time::{Duration, Instant};
 
-use crate::report::Meter;
+use crate::report::{Costs, Meter, Sides};
 use crate::rows::{Plan, Row, Side};
 
-/// A round is so many calls of one side and then of the other, so that a change of the machine's pace meets both.
+/// A round is so many calls of one side and then of the others, so that a change of the machine's pace meets both.
 const CALLS: usize = 25;
 const ROUNDS: usize = 161;
 /// Of a save or a load, which take up to a thousand times as long.
@@ -56,21 +56,24 @@ fn median(ticks: &mut [u64]) -> f64 {
 impl Meter for Timer {
     const PASSES: usize = 15;
 
-    fn pair<A: Side, B: Side>(&mut self, a: &mut A, b: &mut B, plan: Plan, ra: &Row<A>, rb: &Row<B>) -> (f64, f64) {
-        let (mut ta, mut tb, mut idle) = (Vec::new(), Vec::new(), Vec::new());
+    fn costs(&mut self, sides: &mut Sides<impl Side, impl Side, impl Side>, plan: Plan) -> Costs {
+        let Sides { tested: (a, ra), owner: (b, rb), published: (c, rc) } = sides;
+        let mut ticks: [Vec<u64>; 4] = Default::default();
         let rounds = if ra.image { IMAGE_ROUNDS } else { ROUNDS };
         for warm in [true, false] {
-            ta.clear();
-            tb.clear();
+            ticks.iter_mut().for_each(Vec::clear);
             for _ in 0..if warm { 4 } else { rounds } {
-                round(a, plan, ra.writes, ra.call, &mut ta);
-                round(b, plan, rb.writes, rb.call, &mut tb);
-                round(a, plan, false, |_, _| 0, &mut idle);
+                round(*a, plan, ra.writes, ra.call, &mut ticks[0]);
+                round(*b, plan, rb.writes, rb.call, &mut ticks[1]);
+                round(*c, plan, rc.writes, rc.call, &mut ticks[2]);
+                round(*a, plan, false, |_, _| 0, &mut ticks[3]);
             }
         }
         a.restore();
         b.restore();
-        let none = median(&mut idle);
-        ((median(&mut ta) - none).max(0.0) * self.tick, (median(&mut tb) - none).max(0.0) * self.tick)
+        c.restore();
+        let [tested, owner, published, none] = ticks.map(|mut ticks| median(&mut ticks));
+        let cost = |ticks: f64| (ticks - none).max(0.0) * self.tick;
+        Costs { tested: cost(tested), owner: cost(owner), published: cost(published) }
     }
 }

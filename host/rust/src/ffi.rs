@@ -163,14 +163,11 @@ pub(crate) fn list_pairs(bytes: &[u8], pairs: &mut [u64]) -> PairsRead {
     unsafe { scenes_list_pairs(bytes.as_ptr(), bytes.len(), pairs.as_mut_ptr(), pairs.len()) }
 }
 
-// A call: the safe function, and the declared one behind the equals sign, with what is passed for each of its parameters beyond the head
-// and the lent memory. SAFETY: each pointer comes from a slice, with that slice's length; what is written is borrowed exclusively; and
-// every byte pattern is a value of an answer.
-macro_rules! calls {
-    ($lent:ident, $at:ident, $p:ident:
-        $(fn $name:ident($($arg:ident: $ty:ty),*) -> $answer:ty = $symbol:ident($($passed:expr => $as:ty),*);)*) => {
+// The declaration of a call: the head, the lent memory, and what else it takes.
+macro_rules! declared {
+    ($p:ident: $symbol:ident($($as:ty),*) -> $answer:ty) => {
         extern "C" {
-            $(fn $symbol(
+            fn $symbol(
                 state: State,
                 keys: $p!(u64),
                 keys_len: usize,
@@ -181,13 +178,8 @@ macro_rules! calls {
                 records: $p!(u64),
                 records_len: usize,
                 $(_: $as),*
-            ) -> $answer;)*
+            ) -> $answer;
         }
-
-        $(pub(crate) fn $name(state: State, lent: $lent<'_>, $($arg: $ty),*) -> $answer {
-            let (k, t, f, r) = (lent.keys, lent.times, lent.fields, lent.records);
-            unsafe { $symbol(state, k.$at(), k.len(), t.$at(), t.len(), f.$at(), f.len(), r.$at(), r.len(), $($passed),*) }
-        })*
     };
 }
 
@@ -199,42 +191,92 @@ macro_rules! write {
     ($of:ty) => { *mut $of };
 }
 
-calls! { Lent, as_ptr, read:
-    fn is_sound() -> u8 = scenes_is_sound();
-    fn view(key: SceneKey, member: u8) -> SceneRead = scenes_view(key => SceneKey, member => u8);
-    fn recall_lookup(key: SceneKey, member: u8, given: u8, time: u32) -> SceneRead
-        = scenes_recall_lookup(key => SceneKey, member => u8, given => u8, time => u32);
-    fn get_membership(ids: &mut [u8], key: GroupKey, member: u8) -> ListRead
-        = scenes_get_membership(ids.as_mut_ptr() => *mut u8, ids.len() => usize, key => GroupKey, member => u8);
-    fn read_info(fabric: u8, endpoint: u16, single: u8) -> InfoRead = scenes_read_info(fabric => u8, endpoint => u16, single => u8);
-    fn field_bytes(at: usize) -> FieldBytes = scenes_field_bytes(at => usize);
-    fn save_image(buffer: &mut [u8]) -> ImageSaved = scenes_save_image(buffer.as_mut_ptr() => *mut u8, buffer.len() => usize);
-    fn factory_reset() -> Outcome = scenes_factory_reset();
-    fn startup() -> Outcome = scenes_startup();
-    fn fail_safe_commit() -> Outcome = scenes_fail_safe_commit();
-    fn fail_safe_expiry() -> Outcome = scenes_fail_safe_expiry();
+// The calls of a table, twice: `tested` has those of host/scenes.h, which answer 6 if the table is not sound, and `unchecked` those of
+// host/scenes_unchecked.h, which ask that it is. Behind the equals sign stand both symbols, and what is passed for each of their parameters
+// beyond the head and the lent memory. SAFETY of either: each pointer comes from a slice, with that slice's length; what is written is
+// borrowed exclusively; and every byte pattern is a value of an answer.
+macro_rules! calls {
+    ($($lent:ident, $at:ident, $p:ident: {
+        $(fn $name:ident($($arg:ident: $ty:ty),*) -> $answer:ty = $tested:ident, $unchecked:ident($($passed:expr => $as:ty),*);)*
+    })*) => {
+        /// The calls that test the table. Beside a load they are for tables that the crate does not own.
+        #[allow(dead_code)]
+        pub(crate) mod tested {
+            use super::*;
+
+            $($(declared! { $p: $tested($($as),*) -> $answer }
+
+            pub(crate) fn $name(state: State, lent: $lent<'_>, $($arg: $ty),*) -> $answer {
+                let (k, t, f, r) = (lent.keys, lent.times, lent.fields, lent.records);
+                unsafe { $tested(state, k.$at(), k.len(), t.$at(), t.len(), f.$at(), f.len(), r.$at(), r.len(), $($passed),*) }
+            })*)*
+        }
+
+        /// The calls that do not test the table. SAFETY: whoever makes one says why the table is sound.
+        #[allow(dead_code)]
+        pub(crate) mod unchecked {
+            use super::*;
+
+            $($(declared! { $p: $unchecked($($as),*) -> $answer }
+
+            pub(crate) unsafe fn $name(state: State, lent: $lent<'_>, $($arg: $ty),*) -> $answer {
+                let (k, t, f, r) = (lent.keys, lent.times, lent.fields, lent.records);
+                $unchecked(state, k.$at(), k.len(), t.$at(), t.len(), f.$at(), f.len(), r.$at(), r.len(), $($passed),*)
+            })*)*
+        }
+    };
 }
 
-// A recall and an attribute notice write the records alone; for them the header has the other three as constant.
-calls! { LentMut, as_mut_ptr, write:
-    fn add(key: SceneKey, time: u32, member: u8, pairs: &[u8], ext: &[u8]) -> Outcome
-        = scenes_add(
-            key => SceneKey, time => u32, member => u8,
-            pairs.as_ptr() => *const u8, pairs.len() => usize, ext.as_ptr() => *const u8, ext.len() => usize
-        );
-    fn add_read(key: SceneKey, time: u32, member: u8, pairs: &[u8], ext: &[u8]) -> Outcome
-        = scenes_add_read(
-            key => SceneKey, time => u32, member => u8,
-            pairs.as_ptr() => *const u8, pairs.len() => usize, ext.as_ptr() => *const u8, ext.len() => usize
-        );
-    fn store(key: SceneKey, member: u8, captured: &[u8]) -> Stored
-        = scenes_store(key => SceneKey, member => u8, captured.as_ptr() => *const u8, captured.len() => usize);
-    fn recall(key: SceneKey, member: u8, applied: u8) -> Outcome = scenes_recall(key => SceneKey, member => u8, applied => u8);
-    fn remove(key: SceneKey, member: u8) -> Outcome = scenes_remove(key => SceneKey, member => u8);
-    fn remove_all(key: GroupKey, member: u8) -> Outcome = scenes_remove_all(key => GroupKey, member => u8);
-    fn copy(request: CopyRequest, source: u8, target: u8) -> Outcome
-        = scenes_copy(request => CopyRequest, source => u8, target => u8);
-    fn attribute_changed(endpoint: u16) -> Outcome = scenes_attribute_changed(endpoint => u16);
-    fn remove_fabric(fabric: u8) -> Outcome = scenes_remove_fabric(fabric => u8);
-    fn load_image(image: &[u8]) -> Outcome = scenes_load_image(image.as_ptr() => *const u8, image.len() => usize);
+declared! { read: scenes_is_sound() -> u8 }
+
+/// Whether a table is sound.
+pub(crate) fn is_sound(state: State, lent: Lent<'_>) -> bool {
+    let Lent { keys: k, times: t, fields: f, records: r } = lent;
+    // SAFETY: as above.
+    unsafe { scenes_is_sound(state, k.as_ptr(), k.len(), t.as_ptr(), t.len(), f.as_ptr(), f.len(), r.as_ptr(), r.len()) != 0 }
+}
+
+calls! {
+    Lent, as_ptr, read: {
+        fn view(key: SceneKey, member: u8) -> SceneRead = scenes_view, scenes_view_unchecked(key => SceneKey, member => u8);
+        fn recall_lookup(key: SceneKey, member: u8, given: u8, time: u32) -> SceneRead
+            = scenes_recall_lookup, scenes_recall_lookup_unchecked(key => SceneKey, member => u8, given => u8, time => u32);
+        fn get_membership(ids: &mut [u8], key: GroupKey, member: u8) -> ListRead
+            = scenes_get_membership, scenes_get_membership_unchecked(ids.as_mut_ptr() => *mut u8, ids.len() => usize, key => GroupKey, member => u8);
+        fn read_info(fabric: u8, endpoint: u16, single: u8) -> InfoRead
+            = scenes_read_info, scenes_read_info_unchecked(fabric => u8, endpoint => u16, single => u8);
+        fn field_bytes(at: usize) -> FieldBytes = scenes_field_bytes, scenes_field_bytes_unchecked(at => usize);
+        fn save_image(buffer: &mut [u8]) -> ImageSaved
+            = scenes_save_image, scenes_save_image_unchecked(buffer.as_mut_ptr() => *mut u8, buffer.len() => usize);
+        fn factory_reset() -> Outcome = scenes_factory_reset, scenes_factory_reset_unchecked();
+        fn startup() -> Outcome = scenes_startup, scenes_startup_unchecked();
+        fn fail_safe_commit() -> Outcome = scenes_fail_safe_commit, scenes_fail_safe_commit_unchecked();
+        fn fail_safe_expiry() -> Outcome = scenes_fail_safe_expiry, scenes_fail_safe_expiry_unchecked();
+    }
+
+    // A recall and an attribute notice write the records alone; for them the header has the other three as constant.
+    LentMut, as_mut_ptr, write: {
+        fn add(key: SceneKey, time: u32, member: u8, pairs: &[u8], ext: &[u8]) -> Outcome
+            = scenes_add, scenes_add_unchecked(
+                key => SceneKey, time => u32, member => u8,
+                pairs.as_ptr() => *const u8, pairs.len() => usize, ext.as_ptr() => *const u8, ext.len() => usize
+            );
+        fn add_read(key: SceneKey, time: u32, member: u8, pairs: &[u8], ext: &[u8]) -> Outcome
+            = scenes_add_read, scenes_add_read_unchecked(
+                key => SceneKey, time => u32, member => u8,
+                pairs.as_ptr() => *const u8, pairs.len() => usize, ext.as_ptr() => *const u8, ext.len() => usize
+            );
+        fn store(key: SceneKey, member: u8, captured: &[u8]) -> Stored
+            = scenes_store, scenes_store_unchecked(key => SceneKey, member => u8, captured.as_ptr() => *const u8, captured.len() => usize);
+        fn recall(key: SceneKey, member: u8, applied: u8) -> Outcome
+            = scenes_recall, scenes_recall_unchecked(key => SceneKey, member => u8, applied => u8);
+        fn remove(key: SceneKey, member: u8) -> Outcome = scenes_remove, scenes_remove_unchecked(key => SceneKey, member => u8);
+        fn remove_all(key: GroupKey, member: u8) -> Outcome = scenes_remove_all, scenes_remove_all_unchecked(key => GroupKey, member => u8);
+        fn copy(request: CopyRequest, source: u8, target: u8) -> Outcome
+            = scenes_copy, scenes_copy_unchecked(request => CopyRequest, source => u8, target => u8);
+        fn attribute_changed(endpoint: u16) -> Outcome = scenes_attribute_changed, scenes_attribute_changed_unchecked(endpoint => u16);
+        fn remove_fabric(fabric: u8) -> Outcome = scenes_remove_fabric, scenes_remove_fabric_unchecked(fabric => u8);
+        fn load_image(image: &[u8]) -> Outcome
+            = scenes_load_image, scenes_load_image_unchecked(image.as_ptr() => *const u8, image.len() => usize);
+    }
 }
