@@ -12,7 +12,7 @@
 -- what a fabric's removal leaves, `Numbers` the numbers that each call can answer, `Unsound` what a table that is not sound is answered, `Refusals`
 -- that a refusal is its number alone and that 11 is decided by the inputs alone, `Midway` what a copy that ran out leaves, `Modes` that no call
 -- changes the modes, `Share` what the share mode promises, `FieldBytes` whose fields an answered position has, `Buffers` what a scene list buffer
--- counts for.
+-- counts for, `Owned` that a sound table stays sound through a host's calls.
 pub mod Lists
 pub mod Lookups
 pub mod Changes
@@ -61,3 +61,4 @@ pub mod CountReadings
 pub mod Removal
 pub mod FieldBytes
 pub mod Buffers
+pub mod Owned

@@ -268,7 +268,7 @@ left t (row r) = calls.withState (r .state) t
 left t (image s) = calls.withState (s .answer .state) t
 
 -- recall's lookup hands the head back as it came, whatever it answers
-lookup-state : (key : SceneKey) (m : Membership) (o : Transition) (t : Table) → recallLookup key m o t .state ≡ t .state
+pub lookup-state : (key : SceneKey) (m : Membership) (o : Transition) (t : Table) → recallLookup key m o t .state ≡ t .state
 unfolding recallLookup guarded readAt
 lookup-state key m o t =
     either (λ (r : SceneRead). r .state ≡ t .state) (eqb (refusalOf t (lookupGate key m)) success) (go (findScene key t)) refl

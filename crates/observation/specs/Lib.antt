@@ -5,3 +5,4 @@ pub mod Numbers
 pub mod Refusals
 pub mod FieldBytes
 pub mod Share
+pub mod Owned
