@@ -1,5 +1,6 @@
 // Entries written to the lent slices: a new one, a copy under another key, one moved to an earlier position, and all of a range dropped.
 use words::KeyRange;
+use words::Limits;
 use words::Slot;
 ghost use mathlib.Core.Path.{_≡_};
 ghost use Prim.Native.Nat.{_+_, _*_, _<_, _≤_};
@@ -45,17 +46,20 @@ pub fn put(
     put_bytes(fields, at * Slot::STRIDE, ext);
 }
 
-// Copies the bytes of an entry from one place to an earlier one, or to the same.
+// Copies the bytes of an entry from one place to an earlier one, or to the same. The last byte is apart, so that the others are whole
+// vectors.
 fn copy_bytes(fields: &mut [u8], from: usize, to: usize)
     requires { ⌜ to ≤ from ⌝ }
     requires { ⌜ from + stride ≤ length (now fields) ⌝ }
     ensures { λ _. ⌜ now (fields .exit) ≡ overlay to (part from stride (now (fields .entry))) (now (fields .entry)) ⌝ }
 {
     let mut i: usize = 0;
-    while i < Slot::STRIDE {
+    while i < Limits::MAX_EXT_FIELDS_LEN {
         fields[to + i] = fields[from + i];
         i += 1;
     }
+    let last = Limits::MAX_EXT_FIELDS_LEN;
+    fields[to + last] = fields[from + last];
 }
 
 // Copies an entry with all its bytes to an earlier position, or to the same.

@@ -36,21 +36,6 @@ fn in_block(keys: &[u64], at: usize, key: u64) -> bool
         | (keys[at + 7] == key)
 }
 
-// A position of the first n, found in steps of eight, below which the key word does not stand.
-fn skip_blocks(keys: &[u64], n: usize, key: u64) -> usize
-    requires { ⌜ n ≤ length (now keys) ⌝ }
-    ensures { λ r. ⌜ (r ≤ n) × (firstKey (now (keys .entry)) r key ≡ Nothing) ⌝ }
-{
-    let mut i = 0;
-    while 8 <= n - i {
-        if in_block(keys, i, key) {
-            return i;
-        }
-        i += 8;
-    }
-    i
-}
-
 // The first of the first n positions that holds the key word, if it does not stand below a position.
 fn find_from(keys: &[u64], from: usize, n: usize, key: u64) -> Found
     requires { ⌜ from ≤ n ⌝ }
@@ -68,13 +53,56 @@ fn find_from(keys: &[u64], from: usize, n: usize, key: u64) -> Found
     Found::Nothing
 }
 
-// The first of the first n positions that holds the key word.
+// The first of the positions up to the fourth from one on that holds the key word, if it does not stand below that one.
+fn find_in_four(keys: &[u64], at: usize, key: u64) -> Found
+    requires { ⌜ at + 4 ≤ length (now keys) ⌝ }
+    requires { ⌜ firstKey (now keys) at key ≡ Nothing ⌝ }
+    ensures { λ r. ⌜ r ≡ firstKey (now (keys .entry)) (at + 4) key ⌝ }
+{
+    if keys[at] == key {
+        return Found::At(at);
+    }
+    if keys[at + 1] == key {
+        return Found::At(at + 1);
+    }
+    if keys[at + 2] == key {
+        return Found::At(at + 2);
+    }
+    if keys[at + 3] == key {
+        return Found::At(at + 3);
+    }
+    Found::Nothing
+}
+
+// The same of eight positions.
+fn find_in_eight(keys: &[u64], at: usize, key: u64) -> Found
+    requires { ⌜ at + 8 ≤ length (now keys) ⌝ }
+    requires { ⌜ firstKey (now keys) at key ≡ Nothing ⌝ }
+    ensures { λ r. ⌜ r ≡ firstKey (now (keys .entry)) (at + 8) key ⌝ }
+{
+    let Found::At(found) = find_in_four(keys, at, key) else {
+        return find_in_four(keys, at + 4, key);
+    };
+    Found::At(found)
+}
+
+// The first of the first n positions that holds the key word, in steps of eight.
 pub fn find(keys: &[u64], n: usize, key: u64) -> Found
     requires { ⌜ n ≤ length (now keys) ⌝ }
     ensures { λ r. ⌜ r ≡ firstKey (now (keys .entry)) n key ⌝ }
 {
-    let from = skip_blocks(keys, n, key);
-    find_from(keys, from, n, key)
+    let mut i = 0;
+    while 8 <= n - i {
+        match find_in_eight(keys, i, key) {
+            Found::At(at) => {
+                return Found::At(at);
+            }
+            Found::Nothing => {
+                i += 8;
+            }
+        }
+    }
+    find_from(keys, i, n, key)
 }
 
 // How many of the first n key words lie in a range.

@@ -178,6 +178,15 @@ module _ (p : ℕ → Bool) where
       (λ l. rw (first-at n i l e q))
       (eq-or-lt-of-le (le-of-suc-le-suc h))
 
+  -- what was found is the first of more positions too
+  pub first-stays : (m n i : ℕ) → n ≤ m → firstBelow p n ≡ At i → firstBelow p m ≡ At i
+  unfolding firstBelow orElse
+  first-stays zero n i h e = let z : n ≡ 0 = omega arith in subst (λ (k : ℕ). firstBelow p k ≡ At i) z e
+  first-stays (suc m) n i h e =
+      ⊎-elim (λ r. subst (λ (k : ℕ). firstBelow p k ≡ At i) r e)
+      (λ l. rw (first-stays m n i (le-of-suc-le-suc l) e))
+      (eq-or-lt-of-le h)
+
   -- what was found is below n, and p holds there
   pub first-under : (n i : ℕ) → firstBelow p n ≡ At i → (i < n) × (p i ≡ true)
   unfolding firstBelow orElse
