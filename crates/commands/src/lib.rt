@@ -1,5 +1,5 @@
-// The commands that change a table that is known to be sound, apart from copies. Each has that one condition, and store a second, where its
-// scene stands. The outward call of the same name meets them by its test.
+// The commands that change a table that is known to be sound, apart from copies. Each has that one condition, and the outward call of the same
+// name meets it by its test. Beside them is `store_found`, for a caller that has found the scene too, as the test of the outward store does.
 use records::Scope;
 use requests::Membership;
 use state::Outcome;
@@ -136,8 +136,30 @@ impl Commands {
         state.upsert_scene(keys, times, fields, records, found, key, time, ext)
     }
 
-    // Stores captured bytes as a scene, and remembers it as the fabric's current one. Whoever tested the table has found the scene.
+    // Stores captured bytes as a scene, and remembers it as the fabric's current one.
     pub fn store_scene(
+        self,
+        keys: &mut [u64],
+        times: &mut [u32],
+        fields: &mut [u8],
+        records: &mut [u64],
+        key: SceneKey,
+        member: Membership,
+        captured: &[u8],
+    ) -> Stored
+        requires { ⌜ sound (tableOf (self .state) (now keys) (now times) (now fields) (now records)) ≡ true ⌝ }
+        ensures { λ r.
+            let before = tableOf (self .state) (now (keys .entry)) (now (times .entry)) (now (fields .entry)) (now (records .entry)) in
+            let after = tableOf (r .state) (now (keys .exit)) (now (times .exit)) (now (fields .exit)) (now (records .exit)) in
+            ⌜ countedOf (resultOf (r .status) (r .save) after) (r .compared) ≡ storeCounted key member (now (captured .entry)) before ⌝ }
+    {
+        let n = self.state.entries;
+        let found = slots::find(keys, n, key.word());
+        self.store_found(keys, times, fields, records, found, key, member, captured)
+    }
+
+    // Stores captured bytes as a scene, and remembers it as the fabric's current one. Whoever calls has found where the scene stands.
+    pub fn store_found(
         self,
         keys: &mut [u64],
         times: &mut [u32],

@@ -74,7 +74,7 @@ impl ScenesHandler {
         let Search::Sound(found) = state.search(keys, times, fields, records, key.word()) else {
             return Stored::refused(Fault::UNSOUND, state);
         };
-        Commands { state }.store_scene(keys, times, fields, records, found, key, member, captured)
+        Commands { state }.store_found(keys, times, fields, records, found, key, member, captured)
     }
 
     // Removes a scene: the last entry takes its place.

@@ -1,5 +1,5 @@
 // The scene table of Scenes Management, as a host uses it: every call there is, total. Each tests the table, answers 6 if it is not sound,
-// and makes the call of the same name on a sound table otherwise.
+// and makes the call of the same name on a sound table otherwise: for a store `store_found`, since the test finds the scene on its way.
 mod change;
 mod event;
 mod query;

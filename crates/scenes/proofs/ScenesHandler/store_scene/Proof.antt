@@ -1,5 +1,5 @@
--- `ScenesHandler::store_scene` meets its contract: on a sound table it is the call of this name, with the scene where the test found it, and on
--- any other it answers 6. Assumes nothing.
+-- `ScenesHandler::store_scene` meets its contract: on a sound table it is `Commands::store_found`, with the scene where the test found it, and
+-- on any other it answers 6. Assumes nothing.
 use mathlib.Core.Path.{sym, ap, _∙_}
 use Rattle.words.specs.declared.Found.{Found}
 use Rattle.slots.specs.Slots.{firstKey}
@@ -23,7 +23,7 @@ missed c = c .before
 abbrev searched : tie.After-enum-told → tie.After-search
 searched c = c .before .before
 
-abbrev found : tie.After-store-scene-arg4 → tie.After-found
+abbrev found : tie.After-store-found-arg4 → tie.After-found
 found c = c .before .before .before .before .before
 
 abbrev sought : tie.After-found → tie.After-search
@@ -45,8 +45,8 @@ returns c =
     let unsound = search-unsound (sound (came s)) (match s) (sym (told .enum-told .given .1) ∙ s .search .ensures) in
     counts-unsound (start s .args .key) (came s) _ _ _ unsound (c .refused .ensures)
 
-store-scene-requires : tie.Need-store-scene-requires
-store-scene-requires c κs =
+store-found-requires : tie.Need-store-found-requires
+store-found-requires c κs =
     let f = found c in
     let s = sought f in
     let told = search-sound (sound (came s)) (match s) _ (sym (f .found .given .1) ∙ s .search .ensures) in
@@ -66,7 +66,7 @@ store-scene-spec =
     (λ c. search needs)
     (λ c. search needs)
     returns
-    store-scene-requires
+    store-found-requires
     (λ c. search needs)
     (λ c. search needs)
     (λ c. search needs)
