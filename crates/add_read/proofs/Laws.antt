@@ -1,14 +1,14 @@
 -- An add through the reader is the add with the listed pairs, or it is refused by 11. Assumes nothing.
 use Prim.Native.Nat.{ℕ}
 use mathlib.Core.Path.{_≡_, refl, sym, ap, _∙_}
-use mathlib.Core.Bool.{Bool, true, false, not}
+use mathlib.Core.Bool.{true, false}
 use mathlib.Core.List.{List, [], _∷_}
 use mathlib.Core.Option.{Option, none, some}
 use native.Mathlib.Omega.{arith}
 use lib.Dec.{eqb}
 use lib.ListN.{length}
-use borrow.Author.Tests.{not-true, eq-eqb, ne-eqb, eqb-true, eqb-false}
-use Rattle.words.specs.Constants.{success, unsound, badFieldSets, maxFields}
+use borrow.Author.Tests.{eq-eqb, ne-eqb, eqb-true, eqb-false}
+use Rattle.words.specs.Constants.{success, badFieldSets, maxFields}
 use Rattle.words.specs.declared.SceneKey.{SceneKey}
 use Rattle.requests.specs.declared.Membership.{Membership}
 use Rattle.requests.specs.Requests.{orNext, firstRefusal, pairsGate, fieldsGate, addGate}
@@ -18,7 +18,7 @@ use Rattle.state.specs.Table.{Table}
 use Rattle.state.specs.Sound.{sound}
 use Rattle.state.specs.Change.{saved, upsert}
 use Rattle.state.specs.Answer.{Result, refused, refusalOf, guarded}
-use Rattle.state.proofs.Guard.{resultIn, refuses, refuses-outcome, unsound-outcome}
+use Rattle.state.proofs.Guard.{resultIn, refuses, refuses-outcome}
 use Rattle.commands.specs.Commands.{addScene}
 use Rattle.field_sets.specs.declared.reader.Total.the-variants.{Counted, Unreadable}
 use Rattle.field_sets.specs.Reader.{ExtensionFieldSet, setsIn, pairsOf, totalOf, holdsPairs}
@@ -142,16 +142,6 @@ module _ (key : SceneKey) (time : ℕ) (member : Membership) where
           sym (refuses t s badFieldSets _ g (refused t) (saved (upsert key time ext t)) (λ q. let w : ⊥ = omega (arith, q) in absurd w))
 
       -- ---- as the code answers
-
-      pub read-unsound :
-          (r : Bool) →
-          r ≡ sound t →
-          not r ≡ true →
-          (o : Outcome) →
-          o ≡ record { status = unsound; save = false; state = t .state } →
-          resultIn (t .slots) (t .records) o ≡ addSceneRead key time member pairs ext t
-      unfolding addSceneRead
-      read-unsound r e h o q = unsound-outcome t (sym e ∙ not-true r h) _ o _ q
 
       module _ (g : ℕ) (e : g ≡ readGate key time member pairs ext) where
         pub read-refuses :

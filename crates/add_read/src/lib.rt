@@ -10,7 +10,9 @@ use words::Limits;
 use words::SceneKey;
 use words::Status;
 ghost use mathlib.Core.Path.{_≡_};
+ghost use mathlib.Core.Bool.{true};
 ghost use Rattle.state.specs.Table.{tableOf};
+ghost use Rattle.state.specs.Sound.{sound};
 ghost use Rattle.state.specs.Answer.{resultOf};
 ghost use Rattle.add_read.specs.Adding.{readGate, addSceneRead};
 
@@ -33,6 +35,32 @@ fn read_gate(key: SceneKey, time: u32, member: Membership, pairs: &[u8], ext: &[
     Fault::BAD_FIELD_SETS
 }
 
+// The call on a table that is known to be sound: the tests up to 11, and then the add with the listed pairs.
+pub fn add_read_sound(
+    state: ScenesState,
+    keys: &mut [u64],
+    times: &mut [u32],
+    fields: &mut [u8],
+    records: &mut [u64],
+    key: SceneKey,
+    time: u32,
+    member: Membership,
+    pairs: &[u8],
+    ext: &[u8],
+) -> Outcome
+    requires { ⌜ sound (tableOf state (now keys) (now times) (now fields) (now records)) ≡ true ⌝ }
+    ensures { λ r.
+        let before = tableOf state (now (keys .entry)) (now (times .entry)) (now (fields .entry)) (now (records .entry)) in
+        let after = tableOf (r .state) (now (keys .exit)) (now (times .exit)) (now (fields .exit)) (now (records .exit)) in
+        ⌜ resultOf (r .status) (r .save) after ≡ addSceneRead key time member (now (pairs .entry)) (now (ext .entry)) before ⌝ }
+{
+    let gate = read_gate(key, time, member, pairs, ext);
+    if gate != Status::SUCCESS {
+        return Outcome::unsaved(gate, state);
+    }
+    Commands { state }.add_scene(keys, times, fields, records, key, time, member, pairs, ext)
+}
+
 // Adds a scene, or gives it a new time and new fields. The host answered each pair in the field bytes with one pair byte, in order.
 pub fn add_scene_read(
     state: ScenesState,
@@ -51,12 +79,19 @@ pub fn add_scene_read(
         let after = tableOf (r .state) (now (keys .exit)) (now (times .exit)) (now (fields .exit)) (now (records .exit)) in
         ⌜ resultOf (r .status) (r .save) after ≡ addSceneRead key time member (now (pairs .entry)) (now (ext .entry)) before ⌝ }
 {
-    if !state.is_sound(keys, times, fields, records) {
-        return Outcome::unsaved(Fault::UNSOUND, state);
+    if state.is_sound(keys, times, fields, records) {
+        return add_read_sound(
+            state,
+            keys,
+            times,
+            fields,
+            records,
+            key,
+            time,
+            member,
+            pairs,
+            ext,
+        );
     }
-    let gate = read_gate(key, time, member, pairs, ext);
-    if gate != Status::SUCCESS {
-        return Outcome::unsaved(gate, state);
-    }
-    Commands { state }.add_scene(keys, times, fields, records, key, time, member, pairs, ext)
+    Outcome::unsaved(Fault::UNSOUND, state)
 }

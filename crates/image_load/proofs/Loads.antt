@@ -1,12 +1,11 @@
 -- The laws of a load: by its length, and on a sound table refused as a whole, or done. Assumes nothing.
 use Prim.Native.Nat.{ℕ, _≤_}
 use mathlib.Core.Path.{_≡_, refl, sym, ap, _∙_}
-use mathlib.Core.Bool.{Bool, true, false, not}
+use mathlib.Core.Bool.{true, false}
 use mathlib.Core.List.{List, [], _∷_}
 use mathlib.Core.Option.{Option, none, some, Option·none-ne-some}
 use native.Mathlib.Omega.{arith}
 use lib.ListN.{length}
-use borrow.Author.Tests.{not-true}
 use Rattle.words.specs.Constants.{success, unsound, badImage}
 use Rattle.slots.specs.Slots.{Slots}
 use Rattle.state.specs.declared.ScenesState.{ScenesState}
@@ -59,11 +58,11 @@ abbrev answered : ℕ → ScenesState → Outcome
 answered n state = record { status = n; save = false; state = state }
 
 -- 6 on a table that is not sound
-pub load-unsound : (t : Table) (b : List ℕ) (r : Bool) → r ≡ sound t → not r ≡ true → (o : Outcome) → o ≡ answered unsound (t .state)
+pub load-unsound : (t : Table) (b : List ℕ) → sound t ≡ false → (o : Outcome) → o ≡ answered unsound (t .state)
     → resultIn (t .slots) (t .records) o ≡ loadImage b t
 unfolding startup loadTlv loadImage
-load-unsound t [] r e h o q = unsound-outcome t (sym e ∙ not-true r h) _ o _ q
-load-unsound t (x ∷ b) r e h o q = unsound-outcome t (sym e ∙ not-true r h) _ o _ q
+load-unsound t [] s o q = unsound-outcome t s _ o _ q
+load-unsound t (x ∷ b) s o q = unsound-outcome t s _ o _ q
 
 module _ (t : Table) (b : List ℕ) (s : sound t ≡ true) where
   no-image : arraysIn b ≡ NoArrays → badImage ≡ imageGate (t .state .size) b

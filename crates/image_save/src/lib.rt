@@ -30,8 +30,8 @@ impl ImageSaved {
     }
 }
 
-// The image of a table that is known to be sound. Its length is counted before the first byte is written.
-fn save_sound(
+// The call on a table that is known to be sound. The length of the image is counted before the first byte is written.
+pub fn save_sound(
     state: ScenesState,
     keys: &[u64],
     times: &[u32],
