@@ -1,14 +1,16 @@
 // The calls of the scene table for hosts in C or Rust. Each is one call of the table; numbers stand for enums, and no reference
 // comes back. A lent slice is a pointer and a count of elements.
-use commands::Applied;
 use commands::Stored;
+use host_numbers::FieldBytes;
+use host_numbers::application;
+use host_numbers::transition;
+use host_numbers::truth;
 use image_load::load_image;
 use image_save::ImageSaved;
 use image_save::save_image;
 use reads::InfoRead;
 use reads::ListRead;
 use reads::SceneRead;
-use reads::Transition;
 use requests::CopyRequest;
 use requests::Membership;
 use scenes::ScenesHandler;
@@ -16,7 +18,6 @@ use state::Outcome;
 use state::ScenesState;
 use words::GroupKey;
 use words::SceneKey;
-use words::Slot;
 ghost use mathlib.Core.Path.{_≡_};
 ghost use Rattle.state.specs.Table.{tableOf, newState, newStateWith};
 ghost use Rattle.state.specs.Sound.{sound};
@@ -29,51 +30,15 @@ ghost use Rattle.lifecycle.specs.Lifecycle.{scenableAttributeChanged, removeFor
 ghost use Rattle.image_save.specs.Saving.{savedOf, saveImage};
 ghost use Rattle.image_load.specs.Loading.{loadImage};
 ghost use Rattle.requests.specs.Requests.{membershipOf};
-ghost use Rattle.host.specs.Numbers.{interfaceVersion, appliedOf, transitionOf, truthOf};
-ghost use Rattle.host.specs.Fields.{fieldPlace};
-
-// Where field bytes lie in the lent field slice.
-#[repr(C)]
-pub struct FieldBytes {
-    pub offset: usize,
-    pub len: usize,
-}
+ghost use Rattle.host_numbers.specs.Numbers.{appliedOf, transitionOf, truthOf};
+ghost use Rattle.host_numbers.specs.Fields.{fieldPlace};
+ghost use Rattle.host.specs.Version.{interfaceVersion};
 
 // What a host is compiled for: a change of a struct, an answer or a call of the C header steps the version, here and there.
 pub struct Interface;
 
 impl Interface {
     pub const VERSION: u32 = 8;
-}
-
-// Whether the host applied a recalled scene: 1 is yes, any other number is no.
-fn application(answer: u8) -> Applied
-    ensures { λ r. ⌜ r ≡ appliedOf answer ⌝ }
-{
-    if answer == 1 {
-        return Applied::Yes;
-    }
-    Applied::Failed
-}
-
-// The time of a recall: the scene's own where `given` is 0, else the override.
-fn transition(given: u8, time: u32) -> Transition
-    ensures { λ r. ⌜ r ≡ transitionOf given time ⌝ }
-{
-    if given == 0 {
-        return Transition::Stored;
-    }
-    Transition::Given(time)
-}
-
-// 0 is no, any other number is yes: a byte that a host wrote need not be a truth value.
-fn truth(answer: u8) -> bool
-    ensures { λ r. ⌜ r ≡ truthOf answer ⌝ }
-{
-    if answer == 0 {
-        return false;
-    }
-    true
 }
 
 // The version of the interface that the library has, for a host that may have been compiled for another.
@@ -405,11 +370,7 @@ pub extern "C" fn scenes_field_bytes(
     let len = ScenesHandler { state }
         .field_bytes(keys, times, fields, records, at)
         .len();
-    if len == 0 {
-        return FieldBytes { offset: 0, len: 0 };
-    }
-    let offset = at * Slot::STRIDE + 1;
-    FieldBytes { offset, len }
+    FieldBytes::of_entry(at, len)
 }
 
 // A scenable attribute changed on an endpoint.

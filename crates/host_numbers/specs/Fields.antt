@@ -7,9 +7,12 @@ use lib.ListN.{length}
 use Rattle.words.specs.Constants.{stride}
 use Rattle.state.specs.Table.{Table}
 use Rattle.reads.specs.Reads.{fieldBytes}
-use Rattle.host.specs.declared.FieldBytes.{FieldBytes}
+use Rattle.host_numbers.specs.declared.FieldBytes.{FieldBytes}
 
--- behind the entry's length byte, as many as `fieldBytes` has; 0 and 0 where it has none
+-- so many bytes behind the entry's length byte; 0 and 0 where there are none
+unfoldable pub placeOf : ℕ → ℕ → FieldBytes
+placeOf at len = cond (eqb len 0) (record { offset = 0; len = 0 }) (record { offset = at * stride + 1; len = len })
+
+-- as many as `fieldBytes` has
 unfoldable pub fieldPlace : ℕ → Table → FieldBytes
-fieldPlace at t =
-    cond (eqb (length (fieldBytes at t)) 0) (record { offset = 0; len = 0 }) (record { offset = at * stride + 1; len = length (fieldBytes at t) })
+fieldPlace at t = placeOf at (length (fieldBytes at t))

@@ -1,8 +1,8 @@
--- `host::truth` meets its contract. Assumes nothing.
+-- `host_numbers::truth` meets its contract. Assumes nothing.
 use borrow.Author.Tests.{eq-eqb, ne-eqb}
-use Rattle.host.specs.Numbers.{truthOf}
-use Rattle.host.proofs.truth.Statement.{statement}
-use Rattle.host.proofs.truth.Tie as tie
+use Rattle.host_numbers.specs.Numbers.{truthOf}
+use Rattle.host_numbers.proofs.truth.Statement.{statement}
+use Rattle.host_numbers.proofs.truth.Tie as tie
 
 returns : tie.Need-returns
 unfolding truthOf

@@ -1,8 +1,8 @@
--- `host::transition` meets its contract. Assumes nothing.
+-- `host_numbers::transition` meets its contract. Assumes nothing.
 use borrow.Author.Tests.{eq-eqb, ne-eqb}
-use Rattle.host.specs.Numbers.{transitionOf}
-use Rattle.host.proofs.transition.Statement.{statement}
-use Rattle.host.proofs.transition.Tie as tie
+use Rattle.host_numbers.specs.Numbers.{transitionOf}
+use Rattle.host_numbers.proofs.transition.Statement.{statement}
+use Rattle.host_numbers.proofs.transition.Tie as tie
 
 returns : tie.Need-returns
 unfolding transitionOf

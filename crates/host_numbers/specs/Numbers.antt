@@ -8,10 +8,6 @@ use Rattle.commands.specs.declared.Applied.the-variants as applied
 use Rattle.reads.specs.declared.Transition.{Transition}
 use Rattle.reads.specs.declared.Transition.the-variants.{Stored, Given}
 
--- the version of the interface: 1 had no version to ask for
-abbrev pub interfaceVersion : ℕ
-interfaceVersion = 8
-
 -- 1 is yes; at any other number the host could not apply the scene
 unfoldable pub appliedOf : ℕ → Applied
 appliedOf n = cond (eqb n 1) applied.Yes applied.Failed

@@ -14,8 +14,8 @@ use Rattle.slots.proofs.Laws.{length-part}
 use Rattle.state.specs.Table.{Table}
 use Rattle.state.specs.Sound.{sound}
 use Rattle.reads.specs.Reads.{fieldBytes}
-use Rattle.host.specs.declared.FieldBytes.{FieldBytes}
-use Rattle.host.specs.Fields.{fieldPlace}
+use Rattle.host_numbers.specs.declared.FieldBytes.{FieldBytes}
+use Rattle.host_numbers.specs.Fields.{placeOf, fieldPlace}
 use Rattle.state.proofs.Laws.{InBounds, sound-bounds, sound-length}
 
 no-bytes : (l : List ℕ) → length l ≡ 0 → l ≡ []
@@ -64,11 +64,11 @@ module _ (at : ℕ) (t : Table) where
   some = record { offset = at * stride + 1; len = length (fieldBytes at t) }
 
   pub place-none : length (fieldBytes at t) ≡ 0 → record { offset = 0; len = 0 } ≡ fieldPlace at t
-  unfolding fieldPlace
+  unfolding fieldPlace placeOf
   place-none e = rw (eq-eqb _ 0 e)
 
   pub place-some : (length (fieldBytes at t) ≡ 0 → ⊥) → some ≡ fieldPlace at t
-  unfolding fieldPlace
+  unfolding fieldPlace placeOf
   place-some h = rw (ne-eqb _ 0 h)
 
   pub place-within : Within (fieldPlace at t) (t .slots .fields) (fieldBytes at t)

@@ -1,8 +1,8 @@
--- `host::application` meets its contract. Assumes nothing.
+-- `host_numbers::application` meets its contract. Assumes nothing.
 use borrow.Author.Tests.{eq-eqb, ne-eqb}
-use Rattle.host.specs.Numbers.{appliedOf}
-use Rattle.host.proofs.application.Statement.{statement}
-use Rattle.host.proofs.application.Tie as tie
+use Rattle.host_numbers.specs.Numbers.{appliedOf}
+use Rattle.host_numbers.proofs.application.Statement.{statement}
+use Rattle.host_numbers.proofs.application.Tie as tie
 
 returns : tie.Need-returns
 unfolding appliedOf

@@ -1,0 +1,21 @@
+-- `host_fields::scenes_add_read_unchecked` meets its contract. Assumes nothing.
+use borrow.Author.Needs.{needs}
+use Rattle.host_fields.proofs.scenes_add_read_unchecked.Statement.{statement}
+use Rattle.host_fields.proofs.scenes_add_read_unchecked.Tie as tie
+
+returns : tie.Need-returns
+returns c =
+    let d = c .before .before .before .before .before .before .before .before in
+    rw (← d .before .of-number .ensures) (d .add-read-sound .ensures)
+
+pub scenes-add-read-unchecked-spec : {M : Type 1} → statement M
+scenes-add-read-unchecked-spec =
+    tie.close
+    (tie.spec
+    (λ c κs. search needs)
+    (λ c κs. search needs)
+    (λ c. search needs)
+    (λ c. search needs)
+    (λ c. search needs)
+    (λ c. search needs)
+    returns)
