@@ -1,8 +1,9 @@
 /* Every call of scenes.h, with arguments that would be noticed at another place, and every inline function: nothing else checks the header's
- * declarations. It is C and C++. */
+ * declarations. It is C and C++. calls_unchecked.c runs it over the unchecked calls: UNCHECKED is then defined. */
 #include "scenes.h"
 
-#include <stdio.h>
+#include "expect.h"
+
 #include <string.h>
 
 enum { N = 16, YES = SCENES_MEMBER_YES, NO = SCENES_MEMBER_NO };
@@ -11,16 +12,6 @@ static uint64_t keys[N], records[N];
 static uint32_t times[N];
 static uint8_t fields[SCENES_STRIDE * N];
 static struct scenes_table table;
-static int failures;
-
-#define EXPECT(what) expect(what, #what, __LINE__)
-
-static void expect(bool holds, const char *what, int line) {
-    if (holds)
-        return;
-    failures++;
-    printf("host/calls.c:%d: not so: %s\n", line, what);
-}
 
 static const struct scenes_key first = {0x12, 0x3456, 0x789A, 0xBC};
 static const struct scenes_key second = {0x34, 0x5678, 0x9ABC, 0xDE};
@@ -265,9 +256,6 @@ static void refused_reads(void) {
     struct scenes_state before = table.state;
     memcpy(fields_before, fields, sizeof fields);
     const size_t len = sizeof two_pairs;
-    table.state.entries = N + 1;
-    EXPECT(scenes_table_add_read(&table, no_fabric, 0, NO, good, 2, two_pairs, len - 1).status == SCENES_UNSOUND);
-    table.state = before;
     EXPECT(scenes_table_add_read(&table, no_fabric, SCENES_MAX_TIME + 1, NO, good, 2, two_pairs, len - 1).status == SCENES_NO_FABRIC);
     EXPECT(scenes_table_add_read(&table, no_scene, 0, NO, good, 2, two_pairs, len - 1).status == SCENES_CONSTRAINT_ERROR);
     EXPECT(scenes_table_add_read(&table, first, SCENES_MAX_TIME + 1, NO, good, 2, two_pairs, len - 1).status == SCENES_CONSTRAINT_ERROR);
@@ -407,10 +395,23 @@ static void compared(void) {
     }
     struct scenes_stored full = scenes_table_store(&five, scene_of(0x12, 9), YES, NULL, 0);
     EXPECT(full.status == SCENES_INSUFFICIENT_SPACE && !full.save && full.compared == 0);
-    five.state.size = SCENES_MAX_SCENES + 1;
-    full = scenes_table_store(&five, scene_of(0x12, 1), YES, NULL, 0);
-    EXPECT(full.status == SCENES_UNSOUND && !full.save && full.compared == 0);
 }
+
+#ifndef UNCHECKED
+/* A table that is not sound is refused before anything else is looked at, and comes back as it was. */
+static void unsound(void) {
+    struct scenes_table five = scenes_table_new(FIVE, five_keys, five_times, five_fields, five_records);
+    EXPECT(scenes_table_store(&five, scene_of(0x12, 1), YES, NULL, 0).save);
+    five.state.entries = FIVE + 1;
+    struct scenes_state before = five.state;
+    EXPECT(scenes_table_add_read(&five, scene_of(0, 1), 0, NO, NULL, 0, two_pairs, sizeof two_pairs - 1).status == SCENES_UNSOUND);
+    EXPECT(scenes_table_startup(&five).status == SCENES_UNSOUND && scenes_state_equal(five.state, before));
+    five.state.entries = 1;
+    five.state.size = SCENES_MAX_SCENES + 1;
+    struct scenes_stored stored = scenes_table_store(&five, scene_of(0x12, 1), YES, NULL, 0);
+    EXPECT(stored.status == SCENES_UNSOUND && !stored.save && stored.compared == 0);
+}
+#endif
 
 static void lifecycle(void) {
     struct scenes_state before = table.state;
@@ -419,8 +420,6 @@ static void lifecycle(void) {
     EXPECT(scenes_table_startup(&table).status == SCENES_SUCCESS && table.state.recorded == 0 && table.state.dataver == before.dataver);
     EXPECT(scenes_table_factory_reset(&table).status == SCENES_SUCCESS && table.state.dataver == before.dataver + 1);
     EXPECT(!scenes_state_equal(table.state, before));
-    table.state.entries = N + 1;
-    EXPECT(scenes_table_startup(&table).status == SCENES_UNSOUND && table.state.entries == N + 1);
     table.state = scenes_new(N + 1);
     EXPECT(!scenes_table_is_sound(&table));
 }
@@ -465,5 +464,11 @@ int main(void) {
     lifecycle();
     words();
     texts();
+#ifdef UNCHECKED
+    same_types();
+    damaged();
+#else
+    unsound();
+#endif
     return failures != 0;
 }

@@ -1,5 +1,6 @@
 /* The scene table of Scenes Management, for hosts in C: the calls of libhost.a, which `rt staticlib host` builds, and three on raw field
  * bytes, of libhost_fields.a, which `rt staticlib host_fields` builds. A host that lists the pairs of its adds itself needs the first alone.
+ * scenes_unchecked.h has the calls of a table without the test that answers 6, for a host whose table nobody else can write.
  *
  * A table is a head, which every call takes by value and hands back in its answer, and four arrays that the host owns and lends to
  * each call as a pointer and a count of elements:
@@ -655,15 +656,8 @@ SCENES_KEEP static inline struct scenes_outcome scenes_table_fail_safe_expiry(st
     return scenes_table_keep(t, scenes_fail_safe_expiry(SCENES_LENT(t)));
 }
 
-#undef SCENES_KEEP
-#undef SCENES_NONNULL
-#undef SCENES_RESTRICT
+/* The other macros stay: scenes_unchecked.h declares its calls by them. */
 #undef SCENES_ASSERT
-#undef SCENES_ENTRIES
-#undef SCENES_READ
-#undef SCENES_WRITE
-#undef SCENES_WRITE_RECORDS
-#undef SCENES_LENT
 
 #ifdef __cplusplus
 }
