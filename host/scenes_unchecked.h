@@ -1,5 +1,5 @@
 /* The calls of a scene table without the test of the table, for hosts in C: those of libhost_unchecked.a, which `rt staticlib host_unchecked`
- * builds. A host links libhost.a besides, since a table is made and tested by its calls.
+ * builds, and an add by raw field bytes, of libhost_fields.a. A host links libhost.a besides, since a table is made and tested by its calls.
  *
  * The calls of scenes.h are what a host takes first. Each of them tests the whole table before anything else, and answers 6 where it is not
  * sound. The calls here leave that out. They are for a table whose head and arrays only calls of the library write: nobody else does, no other
@@ -44,14 +44,14 @@
 extern "C" {
 #endif
 
-/* ---- The calls of libhost_unchecked.a: each is the call of scenes.h of its name, with the same parameters and the same answers, but never 6 */
+/* ---- The calls: each is that of scenes.h of its name, with the same parameters and the same answers, but never 6 */
 
 /* scenes_add without the test. Answers 1, 0x87, 2 or 0x85, 0x85 or 7 (pairs), 0x89, 0. */
 SCENES_KEEP struct scenes_outcome scenes_add_unchecked(SCENES_WRITE, struct scenes_key key, uint32_t time, uint8_t member,
                                                        const uint8_t *SCENES_RESTRICT pairs, size_t pairs_len,
                                                        const uint8_t *SCENES_RESTRICT ext, size_t ext_len) SCENES_NONNULL;
 
-/* scenes_add_read without the test. Answers 1, 0x87, 2 or 0x85, 11, 0x85 or 7 (pairs), 0x89, 0. */
+/* scenes_add_read without the test, also of libhost_fields.a. Answers 1, 0x87, 2 or 0x85, 11, 0x85 or 7 (pairs), 0x89, 0. */
 SCENES_KEEP struct scenes_outcome scenes_add_read_unchecked(SCENES_WRITE, struct scenes_key key, uint32_t time, uint8_t member,
                                                             const uint8_t *SCENES_RESTRICT pairs, size_t pairs_len,
                                                             const uint8_t *SCENES_RESTRICT ext, size_t ext_len) SCENES_NONNULL;

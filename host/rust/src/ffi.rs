@@ -1,5 +1,5 @@
-//! The functions of libhost.a and libhost_fields.a, declared as host/scenes.h declares them, each behind a safe function. The only unsafe
-//! code of the crate.
+//! The functions of libhost.a, libhost_fields.a and libhost_unchecked.a, declared as host/scenes.h and host/scenes_unchecked.h declare them,
+//! each behind a function of Rust: a safe one, but for the calls that ask that the table is sound.
 //!
 //! What the library asks of its callers across the boundary is that a pointer is valid for its count, that no two arrays overlap and that
 //! nobody else touches them meanwhile: slices and exclusive references have all that.
@@ -20,7 +20,7 @@ pub(crate) struct State {
 // A truth value comes as a byte, 0 or 1. Reading it as a number asks nothing of it.
 
 #[repr(C)]
-#[derive(Clone, Copy)]
+#[derive(Clone, Copy, Debug, PartialEq, Eq)]
 pub(crate) struct Outcome {
     pub state: State,
     pub status: u8,
@@ -28,7 +28,7 @@ pub(crate) struct Outcome {
 }
 
 #[repr(C)]
-#[derive(Clone, Copy)]
+#[derive(Clone, Copy, Debug, PartialEq, Eq)]
 pub(crate) struct Stored {
     pub state: State,
     pub status: u8,
@@ -37,7 +37,7 @@ pub(crate) struct Stored {
 }
 
 #[repr(C)]
-#[derive(Clone, Copy)]
+#[derive(Clone, Copy, Debug, PartialEq, Eq)]
 pub(crate) struct SceneRead {
     pub state: State,
     pub status: u8,
@@ -47,7 +47,7 @@ pub(crate) struct SceneRead {
 }
 
 #[repr(C)]
-#[derive(Clone, Copy)]
+#[derive(Clone, Copy, Debug, PartialEq, Eq)]
 pub(crate) struct ListRead {
     pub state: State,
     pub status: u8,
@@ -56,7 +56,7 @@ pub(crate) struct ListRead {
 }
 
 #[repr(C)]
-#[derive(Clone, Copy)]
+#[derive(Clone, Copy, Debug, PartialEq, Eq)]
 pub(crate) struct InfoRead {
     pub state: State,
     pub status: u8,
@@ -70,7 +70,7 @@ pub(crate) struct InfoRead {
 }
 
 #[repr(C)]
-#[derive(Clone, Copy)]
+#[derive(Clone, Copy, Debug, PartialEq, Eq)]
 pub(crate) struct ImageSaved {
     pub state: State,
     pub status: u8,
@@ -78,7 +78,7 @@ pub(crate) struct ImageSaved {
 }
 
 #[repr(C)]
-#[derive(Clone, Copy)]
+#[derive(Clone, Copy, Debug, PartialEq, Eq)]
 pub(crate) struct FieldBytes {
     pub offset: usize,
     pub len: usize,
@@ -199,7 +199,7 @@ macro_rules! calls {
     ($($lent:ident, $at:ident, $p:ident: {
         $(fn $name:ident($($arg:ident: $ty:ty),*) -> $answer:ty = $tested:ident, $unchecked:ident($($passed:expr => $as:ty),*);)*
     })*) => {
-        /// The calls that test the table. Beside a load they are for tables that the crate does not own.
+        /// The calls that test the table. But for a load they are here for the tests.
         #[allow(dead_code)]
         pub(crate) mod tested {
             use super::*;
@@ -212,7 +212,7 @@ macro_rules! calls {
             })*)*
         }
 
-        /// The calls that do not test the table. SAFETY: whoever makes one says why the table is sound.
+        /// The calls that do not test the table. Whoever makes one says why it is sound.
         #[allow(dead_code)]
         pub(crate) mod unchecked {
             use super::*;

@@ -24,6 +24,9 @@
 //!
 //! A table in share mode, in which a fabric's share limits every new scene, is made by [`Scenes::with_modes`].
 //!
+//! [`Scenes`] begins sound, alone writes its memory, and so never has it tested: that each call leaves a sound table sound is proved. Memory
+//! that comes from outside is tested, by [`Scenes::from_memory`] and [`Scenes::load`].
+//!
 //! What the proofs do not reach is the boundary itself: that the declarations in this crate are those of the library. Tests hold the
 //! layouts and every argument.
 #![cfg_attr(not(test), no_std)]

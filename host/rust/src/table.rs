@@ -1,4 +1,6 @@
-//! The table: its memory, and a method for each call.
+//! The table: its memory, and a method for each call. But for a load they do not test the table: it is its owner, and [`Scenes`] says why
+//! that is enough.
+#![allow(unsafe_code)]
 use crate::answers::{Done, Error, InfoRow, Scene, SceneList, Stored};
 use crate::ffi::{self, Lent, LentMut, Outcome, SceneRead, State};
 use crate::fields::{field_pairs, pairs_max};
@@ -67,6 +69,14 @@ pub struct Memory<const N: usize> {
 /// ```compile_fail
 /// let table = scenes::Scenes::<1025>::new();
 /// ```
+///
+/// Its calls do not test whether the table is sound, as those of a host in C do: nobody else can write the memory of a table that owns it.
+/// What is given up with the test is that a stray write, of other unsafe code or by faulty memory, is noticed: after one a call may answer
+/// anything, and read or write elsewhere. A host that wants to notice it asks [`is_sound`](Scenes::is_sound).
+// INVARIANT: the table is sound, which is the condition of an unchecked call. It begins so: `empty` has a new head over arrays of N places, N
+// at most 1,024 (`new-sound` of crates/observation/specs/Owned.antt), and `from_memory` tests what it is given. And from a sound start the
+// condition holds before every call of any list, loads among them and whatever is answered, if the head that comes back is kept, as `done` and
+// `store` do (`stays-sound`, there). Nothing else writes: `memory` is private, and `memory()` lends it to be read.
 #[derive(Clone, Debug, PartialEq, Eq)]
 pub struct Scenes<const N: usize> {
     pub(crate) memory: Memory<N>,
@@ -169,7 +179,8 @@ impl<const N: usize> Scenes<N> {
     /// # Ok::<(), Error>(())
     /// ```
     pub fn save<'a>(&self, buffer: &'a mut [u8]) -> Result<&'a [u8], Error> {
-        let saved = ffi::save_image(self.state(), self.lent(), buffer);
+        // SAFETY: the table is sound, by the invariant of `Scenes`.
+        let saved = unsafe { ffi::unchecked::save_image(self.state(), self.lent(), buffer) };
         if saved.status != 0 {
             return Err(Error::of(saved.status));
         }
@@ -178,7 +189,7 @@ impl<const N: usize> Scenes<N> {
 
     /// Replaces the scenes and the records by those of an image, in order, and steps the data version. Whatever the bytes are: what is
     /// no image of a table of this size is refused, and changes nothing. No bytes, as a new memory chip has them, are a
-    /// [`startup`](Scenes::startup).
+    /// [`startup`](Scenes::startup). Of all the calls this one tests the table that is there: [`Error::Unsound`] if it is not sound.
     ///
     /// ```
     /// use scenes::{Error, Scenes};
@@ -192,7 +203,7 @@ impl<const N: usize> Scenes<N> {
     /// ```
     pub fn load(&mut self, image: &[u8]) -> Result<Done, Error> {
         let (state, lent) = self.lend();
-        let done = ffi::load_image(state, lent, image);
+        let done = ffi::tested::load_image(state, lent, image);
         self.done(done)
     }
 
@@ -216,13 +227,15 @@ impl<const N: usize> Scenes<N> {
         self.memory.modes
     }
 
-    /// Whether the table is sound: it is, since only the table's own calls write its memory.
+    /// Whether the table is sound: it is, as long as only the table's own calls write its memory. A host that reckons with stray writes asks
+    /// after whatever may have made one, a watchdog's reset or a memory error that was reported, and at times that it chooses, as before a
+    /// save. A table that is not sound is not to be used any more, nor saved: a [`new`](Scenes::new) one is, and the last image is loaded into it.
     ///
     /// ```
     /// assert!(scenes::Scenes::<16>::new().is_sound());
     /// ```
     pub fn is_sound(&self) -> bool {
-        ffi::is_sound(self.state(), self.lent()) != 0
+        ffi::is_sound(self.state(), self.lent())
     }
 
     /// Adds a scene, or gives it a new time and new fields. `pairs` has a byte of [`pair`](crate::pair) for each attribute that it sets.
@@ -238,7 +251,8 @@ impl<const N: usize> Scenes<N> {
     /// ```
     pub fn add(&mut self, key: SceneKey, time: u32, member: Membership, pairs: &[u8], fields: &[u8]) -> Result<Done, Error> {
         let (state, lent) = self.lend();
-        let done = ffi::add(state, lent, key, time, member.number(), pairs, fields);
+        // SAFETY: the table is sound, by the invariant of `Scenes`.
+        let done = unsafe { ffi::unchecked::add(state, lent, key, time, member.number(), pairs, fields) };
         self.done(done)
     }
 
@@ -307,7 +321,8 @@ impl<const N: usize> Scenes<N> {
         fields: &[u8],
     ) -> Result<Done, Error> {
         let (state, lent) = self.lend();
-        let done = ffi::add_read(state, lent, key, time, member.number(), pairs, fields);
+        // SAFETY: the table is sound, by the invariant of `Scenes`.
+        let done = unsafe { ffi::unchecked::add_read(state, lent, key, time, member.number(), pairs, fields) };
         self.done(done)
     }
 
@@ -326,7 +341,8 @@ impl<const N: usize> Scenes<N> {
     /// ```
     pub fn store(&mut self, key: SceneKey, member: Membership, captured: &[u8]) -> Result<Stored, Error> {
         let (state, lent) = self.lend();
-        let ffi::Stored { state, status, save, compared } = ffi::store(state, lent, key, member.number(), captured);
+        // SAFETY: the table is sound, by the invariant of `Scenes`.
+        let ffi::Stored { state, status, save, compared } = unsafe { ffi::unchecked::store(state, lent, key, member.number(), captured) };
         let Done { save } = self.done(Outcome { state, status, save })?;
         Ok(Stored { save, compared })
     }
@@ -345,7 +361,8 @@ impl<const N: usize> Scenes<N> {
     /// # Ok::<(), Error>(())
     /// ```
     pub fn view(&self, key: SceneKey, member: Membership) -> Result<Scene<'_>, Error> {
-        self.scene(ffi::view(self.state(), self.lent(), key, member.number()))
+        // SAFETY: the table is sound, by the invariant of `Scenes`.
+        self.scene(unsafe { ffi::unchecked::view(self.state(), self.lent(), key, member.number()) })
     }
 
     /// What a recall applies: the time that counts and the scene's fields. The host applies them, and then ends the recall by
@@ -364,13 +381,15 @@ impl<const N: usize> Scenes<N> {
     /// ```
     pub fn recall_lookup(&self, key: SceneKey, member: Membership, transition: Transition) -> Result<Scene<'_>, Error> {
         let (given, time) = transition.numbers();
-        self.scene(ffi::recall_lookup(self.state(), self.lent(), key, member.number(), given, time))
+        // SAFETY: the table is sound, by the invariant of `Scenes`.
+        self.scene(unsafe { ffi::unchecked::recall_lookup(self.state(), self.lent(), key, member.number(), given, time) })
     }
 
     /// Ends a recall: a scene that the host has applied becomes the fabric's current one.
     pub fn recall(&mut self, key: SceneKey, member: Membership, applied: Applied) -> Result<Done, Error> {
         let (state, lent) = self.lend();
-        let done = ffi::recall(state, lent, key, member.number(), applied.number());
+        // SAFETY: the table is sound, by the invariant of `Scenes`.
+        let done = unsafe { ffi::unchecked::recall(state, lent, key, member.number(), applied.number()) };
         self.done(done)
     }
 
@@ -388,7 +407,8 @@ impl<const N: usize> Scenes<N> {
     /// ```
     pub fn remove(&mut self, key: SceneKey, member: Membership) -> Result<Done, Error> {
         let (state, lent) = self.lend();
-        let done = ffi::remove(state, lent, key, member.number());
+        // SAFETY: the table is sound, by the invariant of `Scenes`.
+        let done = unsafe { ffi::unchecked::remove(state, lent, key, member.number()) };
         self.done(done)
     }
 
@@ -404,7 +424,8 @@ impl<const N: usize> Scenes<N> {
     /// ```
     pub fn remove_all(&mut self, key: GroupKey, member: Membership) -> Result<Done, Error> {
         let (state, lent) = self.lend();
-        let done = ffi::remove_all(state, lent, key, member.number());
+        // SAFETY: the table is sound, by the invariant of `Scenes`.
+        let done = unsafe { ffi::unchecked::remove_all(state, lent, key, member.number()) };
         self.done(done)
     }
 
@@ -426,7 +447,8 @@ impl<const N: usize> Scenes<N> {
     /// ```
     pub fn copy(&mut self, request: CopyRequest, source: Membership, target: Membership) -> Result<Done, Error> {
         let (state, lent) = self.lend();
-        let done = ffi::copy(state, lent, request, source.number(), target.number());
+        // SAFETY: the table is sound, by the invariant of `Scenes`.
+        let done = unsafe { ffi::unchecked::copy(state, lent, request, source.number(), target.number()) };
         self.done(done)
     }
 
@@ -446,7 +468,8 @@ impl<const N: usize> Scenes<N> {
     /// # Ok::<(), Error>(())
     /// ```
     pub fn get_membership<'a>(&self, key: GroupKey, member: Membership, ids: &'a mut [u8]) -> Result<SceneList<'a>, Error> {
-        let read = ffi::get_membership(self.state(), self.lent(), ids, key, member.number());
+        // SAFETY: the table is sound, by the invariant of `Scenes`.
+        let read = unsafe { ffi::unchecked::get_membership(self.state(), self.lent(), ids, key, member.number()) };
         if read.status != 0 {
             return Err(Error::of(read.status));
         }
@@ -464,7 +487,8 @@ impl<const N: usize> Scenes<N> {
     /// assert_eq!(table.read_info(1, 1, true), Err(Error::SingleElement));
     /// ```
     pub fn read_info(&self, fabric: u8, endpoint: u16, single: bool) -> Result<Option<InfoRow>, Error> {
-        let read = ffi::read_info(self.state(), self.lent(), fabric, endpoint, single.into());
+        // SAFETY: the table is sound, by the invariant of `Scenes`.
+        let read = unsafe { ffi::unchecked::read_info(self.state(), self.lent(), fabric, endpoint, single.into()) };
         if read.status != 0 {
             return Err(Error::of(read.status));
         }
@@ -487,7 +511,8 @@ impl<const N: usize> Scenes<N> {
     /// assert_eq!(scenes::Scenes::<16>::new().field_bytes(0), b"");
     /// ```
     pub fn field_bytes(&self, at: usize) -> &[u8] {
-        let found = ffi::field_bytes(self.state(), self.lent(), at);
+        // SAFETY: the table is sound, by the invariant of `Scenes`.
+        let found = unsafe { ffi::unchecked::field_bytes(self.state(), self.lent(), at) };
         let bytes = self.memory.fields.as_flattened();
         bytes.get(found.offset..).and_then(|rest| rest.get(..found.len)).unwrap_or(&[])
     }
@@ -506,38 +531,44 @@ impl<const N: usize> Scenes<N> {
     /// ```
     pub fn attribute_changed(&mut self, endpoint: u16) -> Result<Done, Error> {
         let (state, lent) = self.lend();
-        let done = ffi::attribute_changed(state, lent, endpoint);
+        // SAFETY: the table is sound, by the invariant of `Scenes`.
+        let done = unsafe { ffi::unchecked::attribute_changed(state, lent, endpoint) };
         self.done(done)
     }
 
     /// A fabric left: its scenes and its current scene go, and nobody else's.
     pub fn remove_fabric(&mut self, fabric: u8) -> Result<Done, Error> {
         let (state, lent) = self.lend();
-        let done = ffi::remove_fabric(state, lent, fabric);
+        // SAFETY: the table is sound, by the invariant of `Scenes`.
+        let done = unsafe { ffi::unchecked::remove_fabric(state, lent, fabric) };
         self.done(done)
     }
 
     /// A factory reset: an empty table, and a step of the data version. The host drops what it had saved.
     pub fn factory_reset(&mut self) -> Result<Done, Error> {
-        let done = ffi::factory_reset(self.state(), self.lent());
+        // SAFETY: the table is sound, by the invariant of `Scenes`.
+        let done = unsafe { ffi::unchecked::factory_reset(self.state(), self.lent()) };
         self.done(done)
     }
 
     /// A startup without a saved table: an empty table at the data version that it had.
     pub fn startup(&mut self) -> Result<Done, Error> {
-        let done = ffi::startup(self.state(), self.lent());
+        // SAFETY: the table is sound, by the invariant of `Scenes`.
+        let done = unsafe { ffi::unchecked::startup(self.state(), self.lent()) };
         self.done(done)
     }
 
     /// The fail-safe was committed: nothing changes.
     pub fn fail_safe_commit(&mut self) -> Result<Done, Error> {
-        let done = ffi::fail_safe_commit(self.state(), self.lent());
+        // SAFETY: the table is sound, by the invariant of `Scenes`.
+        let done = unsafe { ffi::unchecked::fail_safe_commit(self.state(), self.lent()) };
         self.done(done)
     }
 
     /// The fail-safe expired: nothing changes.
     pub fn fail_safe_expiry(&mut self) -> Result<Done, Error> {
-        let done = ffi::fail_safe_expiry(self.state(), self.lent());
+        // SAFETY: the table is sound, by the invariant of `Scenes`.
+        let done = unsafe { ffi::unchecked::fail_safe_expiry(self.state(), self.lent()) };
         self.done(done)
     }
 
@@ -551,19 +582,24 @@ impl<const N: usize> Scenes<N> {
         Lent { keys: &memory.keys, times: &memory.times, fields: memory.fields.as_flattened(), records: &memory.records }
     }
 
-    fn lend(&mut self) -> (State, LentMut<'_>) {
+    pub(crate) fn lend(&mut self) -> (State, LentMut<'_>) {
         let state = self.state();
         let memory = &mut self.memory;
         let fields = memory.fields.as_flattened_mut();
         (state, LentMut { keys: &mut memory.keys, times: &mut memory.times, fields, records: &mut memory.records })
     }
 
-    // Keeps the head that came back, of refusals too: a whole-group copy that ran out has changed it.
+    // Keeps the head that came back.
+    pub(crate) fn keep(&mut self, state: State) {
+        self.memory.entries = state.entries;
+        self.memory.recorded = state.recorded;
+        self.memory.dataver = state.dataver;
+        self.memory.modes = state.modes;
+    }
+
+    // A refusal has a head to be kept too: a whole-group copy that ran out has changed it.
     fn done(&mut self, outcome: Outcome) -> Result<Done, Error> {
-        self.memory.entries = outcome.state.entries;
-        self.memory.recorded = outcome.state.recorded;
-        self.memory.dataver = outcome.state.dataver;
-        self.memory.modes = outcome.state.modes;
+        self.keep(outcome.state);
         if outcome.status == 0 {
             Ok(Done { save: outcome.save != 0 })
         } else {

@@ -1,6 +1,6 @@
 //! What nothing checks across the boundary: layouts, arguments, lengths; and a table whose memory was damaged.
 // The digits of a key word are grouped by its parts.
-#![allow(clippy::unusual_byte_groupings)]
+#![allow(clippy::unusual_byte_groupings, unsafe_code)]
 use crate::ffi::{self, Cursor, FieldBytes, ImageSaved, InfoRead, Lent, LentMut, ListRead, Outcome, PairsRead, SceneRead, State, Stored};
 use crate::*;
 use core::mem::{offset_of, size_of};
@@ -69,7 +69,7 @@ fn the_head_comes_back_whole() {
     let mut table = two();
     table.memory.dataver = u32::MAX;
     table.memory.modes = 0xA5;
-    let read = ffi::view(table.state(), table.lent(), SceneKey { fabric: 9, endpoint: 9, group: 0, scene: 9 }, 1);
+    let read = ffi::tested::view(table.state(), table.lent(), SceneKey { fabric: 9, endpoint: 9, group: 0, scene: 9 }, 1);
     assert_eq!((read.status, read.time, read.at, read.len), (0x8B, 0, MAX_SCENES, 0));
     assert_eq!(read.state, State { size: 16, entries: 2, recorded: 1, dataver: u32::MAX, modes: 0xA5 });
     assert!(table.factory_reset().is_ok());
@@ -99,7 +99,7 @@ fn a_refused_store_counts_none() {
     let mut state = ffi::new(2);
     let mut stored = |scene, member, captured: &[u8]| {
         let key = SceneKey { fabric: 0x12, endpoint: 0x3456, group: 0x789A, scene };
-        let done = ffi::store(state, LentMut { keys, times, fields, records }, key, member, captured);
+        let done = ffi::tested::store(state, LentMut { keys, times, fields, records }, key, member, captured);
         state = done.state;
         (done.status, done.save, done.compared)
     };
@@ -115,8 +115,8 @@ fn lengths_of_fields_arrive() {
     let first = SceneKey { fabric: 0x12, endpoint: 0x3456, group: 0x789A, scene: 0xBC };
     let second = SceneKey { fabric: 0x34, endpoint: 0x5678, group: 0x9ABC, scene: 0xDE };
     for (key, at, len) in [(first, 0, 4), (second, 1, MAX_FIELDS)] {
-        let view = ffi::view(table.state(), table.lent(), key, 1);
-        let lookup = ffi::recall_lookup(table.state(), table.lent(), key, 1, 0, 0);
+        let view = ffi::tested::view(table.state(), table.lent(), key, 1);
+        let lookup = ffi::tested::recall_lookup(table.state(), table.lent(), key, 1, 0, 0);
         assert_eq!((view.at, view.len), (at, len));
         assert_eq!((lookup.at, lookup.len), (at, len));
         assert_eq!(table.view(key, Membership::Yes).map(|scene| scene.fields), Ok(table.field_bytes(at)));
@@ -140,11 +140,11 @@ fn every_number_means_something() {
     let table = two();
     let key = SceneKey { fabric: 0x12, endpoint: 0x3456, group: 0x789A, scene: 0xBC };
     for member in 0..=255 {
-        let status = ffi::view(table.state(), table.lent(), key, member).status;
+        let status = ffi::tested::view(table.state(), table.lent(), key, member).status;
         assert_eq!(status, [0x85, 0, 2][usize::from(member.min(2))]);
     }
     for given in 0..=255 {
-        let time = ffi::recall_lookup(table.state(), table.lent(), key, 1, given, 0x89AB_CDEF).time;
+        let time = ffi::tested::recall_lookup(table.state(), table.lent(), key, 1, given, 0x89AB_CDEF).time;
         assert_eq!(time, if given == 0 { 0 } else { 0x89AB_CDEF });
     }
     for applied in 0..=255 {
@@ -157,10 +157,10 @@ fn every_number_means_something() {
             fields: memory.fields.as_flattened_mut(),
             records: &mut memory.records,
         };
-        assert_eq!(ffi::recall(state, lent, key, 1, applied).status, if applied == 1 { 0 } else { 4 });
+        assert_eq!(ffi::tested::recall(state, lent, key, 1, applied).status, if applied == 1 { 0 } else { 4 });
     }
     for single in 0..=255 {
-        assert_eq!(ffi::read_info(table.state(), table.lent(), 0x12, 0x3456, single).status, if single == 0 { 0 } else { 5 });
+        assert_eq!(ffi::tested::read_info(table.state(), table.lent(), 0x12, 0x3456, single).status, if single == 0 { 0 } else { 5 });
     }
 }
 
@@ -243,13 +243,13 @@ fn lengths_arrive() {
     let table = two();
     let whole = table.lent();
     let sound = |lent| ffi::is_sound(table.state(), lent);
-    assert_eq!(sound(whole), 1);
-    assert_eq!(sound(Lent { keys: &whole.keys[1..], ..whole }), 0);
-    assert_eq!(sound(Lent { times: &whole.times[1..], ..whole }), 0);
-    assert_eq!(sound(Lent { fields: &whole.fields[..16 * STRIDE - 1], ..whole }), 0);
-    assert_eq!(sound(Lent { records: &whole.records[1..], ..whole }), 0);
-    assert_eq!(sound(Lent { keys: &[], times: &[], fields: &[], records: &[] }), 0);
-    assert_eq!(ffi::is_sound(ffi::new(0), Lent { keys: &[], times: &[], fields: &[], records: &[] }), 1);
+    assert!(sound(whole));
+    assert!(!sound(Lent { keys: &whole.keys[1..], ..whole }));
+    assert!(!sound(Lent { times: &whole.times[1..], ..whole }));
+    assert!(!sound(Lent { fields: &whole.fields[..16 * STRIDE - 1], ..whole }));
+    assert!(!sound(Lent { records: &whole.records[1..], ..whole }));
+    assert!(!sound(Lent { keys: &[], times: &[], fields: &[], records: &[] }));
+    assert!(ffi::is_sound(ffi::new(0), Lent { keys: &[], times: &[], fields: &[], records: &[] }));
 }
 
 // What makes memory unsound, one after the other.
@@ -272,42 +272,138 @@ fn damaged() -> [Scenes<16>; 8] {
     })
 }
 
-// 6 comes before every other refusal, so that the inputs here, which have others, do not matter; and nothing is written.
+// The memory is damaged from inside the crate, where it can be: the tested calls answer 6 and write nothing. It comes before every other
+// refusal, so that the inputs here, which have others, do not matter.
 #[test]
-fn a_damaged_table_is_refused_by_every_call() {
+fn a_damaged_table_is_refused_by_every_tested_call() {
     for before in damaged() {
         let mut table = before.clone();
+        assert!(!table.is_sound());
+        assert_eq!(Scenes::from_memory(before.memory.clone()), Err(Error::Unsound));
+        assert_eq!(table.load(&[]), Err(Error::Unsound));
         let key = SceneKey { fabric: 0, endpoint: 0, group: 1, scene: 0 };
         let group = GroupKey { fabric: 0, endpoint: 0, group: 1 };
         let end = GroupScene { group: 1, scene: 0 };
         let request = CopyRequest { fabric: 0, endpoint: 0, mode: 0, from: end, to: end };
-        let unsound = Err(Error::Unsound);
-        assert!(!table.is_sound());
-        assert_eq!(Scenes::from_memory(before.memory.clone()), Err(Error::Unsound));
-        assert_eq!(table.add(key, 0, Membership::Failed, &[9], &[0; 200]), unsound);
-        assert_eq!(table.add_answered(key, 0, Membership::Failed, &[9], &[0; 200]), unsound);
-        assert_eq!(table.add_read(key, 0, Membership::Failed, &[0; 200], |_, _| 9), unsound);
-        assert_eq!(table.add_read(key, 0, Membership::Failed, WIDE, |_, _| 9), unsound);
-        assert_eq!(table.add_read(key, 0, Membership::Failed, &pairs_of_seven(30), |_, _| 9), unsound);
-        assert_eq!(table.store(key, Membership::Failed, &[0; 200]), Err(Error::Unsound));
-        assert_eq!(table.view(key, Membership::Failed), Err(Error::Unsound));
-        assert_eq!(table.recall_lookup(key, Membership::Failed, Transition::Stored), Err(Error::Unsound));
-        assert_eq!(table.recall(key, Membership::Failed, Applied::Failed), unsound);
-        assert_eq!(table.remove(key, Membership::Failed), unsound);
-        assert_eq!(table.remove_all(group, Membership::Failed), unsound);
-        assert_eq!(table.copy(request, Membership::Failed, Membership::Failed), unsound);
-        assert_eq!(table.get_membership(group, Membership::Failed, &mut []), Err(Error::Unsound));
-        assert_eq!(table.read_info(0, 0, true), Err(Error::Unsound));
-        assert_eq!(table.field_bytes(0), b"");
-        assert_eq!(table.attribute_changed(0), unsound);
-        assert_eq!(table.remove_fabric(0), unsound);
-        assert_eq!(table.factory_reset(), unsound);
-        assert_eq!(table.startup(), unsound);
-        assert_eq!(table.save(&mut []), Err(Error::Unsound));
-        assert_eq!(table.load(&[]), unsound);
-        assert_eq!(table.fail_safe_commit(), unsound);
-        assert_eq!(table.fail_safe_expiry(), unsound);
+        macro_rules! writes {
+            ($($name:ident($($passed:expr),*);)*) => {$({
+                let (state, lent) = table.lend();
+                let answer = ffi::tested::$name(state, lent, $($passed),*);
+                assert_eq!((answer.status, answer.save, answer.state), (6, 0, state), stringify!($name));
+            })*};
+        }
+        macro_rules! reads {
+            ($($name:ident($($passed:expr),*);)*) => {$({
+                let answer = ffi::tested::$name(table.state(), table.lent(), $($passed),*);
+                assert_eq!((answer.status, answer.state), (6, table.state()), stringify!($name));
+            })*};
+        }
+        writes! {
+            add(key, 0, 2, &[9], &[0; 200]);
+            add_read(key, 0, 2, &[9], &[0; 200]);
+            store(key, 2, &[0; 200]);
+            recall(key, 2, 0);
+            remove(key, 2);
+            remove_all(group, 2);
+            copy(request, 2, 2);
+            attribute_changed(0);
+            remove_fabric(0);
+            load_image(&[]);
+        }
+        reads! {
+            view(key, 2);
+            recall_lookup(key, 2, 0, 0);
+            get_membership(&mut [], group, 2);
+            read_info(0, 0, 1);
+            save_image(&mut []);
+            factory_reset();
+            startup();
+            fail_safe_commit();
+            fail_safe_expiry();
+        }
+        assert_eq!(ffi::tested::field_bytes(table.state(), table.lent(), 0), FieldBytes { offset: 0, len: 0 });
         assert_eq!(table, before);
+    }
+}
+
+// Numbers below a bound, the same at every run.
+struct Numbers(u64);
+
+impl Numbers {
+    fn below(&mut self, bound: u64) -> u64 {
+        self.0 = self.0.wrapping_mul(6_364_136_223_846_793_005).wrapping_add(1_442_695_040_888_963_407);
+        (self.0 >> 33) % bound
+    }
+}
+
+// A tested call on one table and the unchecked one on another: the same answer, and the same memory afterwards.
+macro_rules! alike {
+    ($lend:ident, $tested:expr, $owned:expr, $name:ident($($passed:expr),*)) => {{
+        let (state, lent) = $lend($tested);
+        let tested = ffi::tested::$name(state, lent, $($passed),*);
+        let (state, lent) = $lend($owned);
+        // SAFETY: the table began empty, and only calls have written it.
+        let unchecked = unsafe { ffi::unchecked::$name(state, lent, $($passed),*) };
+        assert_eq!(tested, unchecked, stringify!($name));
+        $tested.keep(tested.state);
+        $owned.keep(unchecked.state);
+    }};
+}
+
+fn to_write(table: &mut Scenes<5>) -> (State, LentMut<'_>) {
+    table.lend()
+}
+
+fn to_read(table: &mut Scenes<5>) -> (State, Lent<'_>) {
+    (table.state(), table.lent())
+}
+
+#[test]
+fn unchecked_calls_answer_as_the_tested_ones() {
+    let (tested, owned) = (&mut Scenes::<5>::new(), &mut Scenes::<5>::new());
+    let n = &mut Numbers(20);
+    let (mut buffer, mut len, mut ids) = ([0; Scenes::<5>::IMAGE_MAX], 0, [0; 5]);
+    for call in 0..40_000 {
+        let fabric = n.below(3) as u8;
+        let (endpoint, group, scene) = (n.below(2) as u16, n.below(3) as u16, [0, 1, 2, 3, 255][n.below(5) as usize]);
+        let key = SceneKey { fabric, endpoint, group, scene };
+        let group_key = GroupKey { fabric, endpoint, group };
+        let from = GroupScene { group, scene };
+        let to = GroupScene { group: n.below(3) as u16, scene: n.below(4) as u8 };
+        let (time, member, other) = ([0, 7, MAX_TIME + 1][n.below(3) as usize], n.below(8).min(2) as u8 ^ 1, n.below(3) as u8);
+        let request = CopyRequest { fabric, endpoint, mode: n.below(2) as u8, from, to };
+        let bytes = &[7; 130][..n.below(131) as usize];
+        match n.below(22) {
+            0..=2 => alike!(to_write, tested, owned, add(key, time, member, &[other], bytes)),
+            3 => alike!(to_write, tested, owned, add_read(key, time, member, &[other], &pairs_of_seven(1))),
+            4..=5 => alike!(to_write, tested, owned, store(key, member, bytes)),
+            6 => alike!(to_read, tested, owned, view(key, member)),
+            7 => alike!(to_read, tested, owned, recall_lookup(key, member, other, time)),
+            8 => alike!(to_write, tested, owned, recall(key, member, other)),
+            9 => alike!(to_write, tested, owned, remove(key, member)),
+            10 => alike!(to_write, tested, owned, remove_all(group_key, member)),
+            11..=12 => alike!(to_write, tested, owned, copy(request, member, other)),
+            13 => alike!(to_read, tested, owned, get_membership(&mut ids[..usize::from(other) * 2], group_key, member)),
+            14 => alike!(to_read, tested, owned, read_info(fabric, endpoint, other / 2)),
+            15 => alike!(to_write, tested, owned, attribute_changed(endpoint)),
+            16 => {
+                alike!(to_read, tested, owned, save_image(&mut buffer));
+                len = owned.save(&mut buffer).map_or(0, <[u8]>::len);
+            }
+            17 => alike!(to_write, tested, owned, load_image(&buffer[..len.saturating_sub(usize::from(other / 2))])),
+            18 => alike!(to_read, tested, owned, fail_safe_commit()),
+            19 => alike!(to_read, tested, owned, fail_safe_expiry()),
+            20 => alike!(to_write, tested, owned, remove_fabric(fabric)),
+            _ if call % 50 == 0 => alike!(to_read, tested, owned, factory_reset()),
+            _ if call % 50 == 1 => alike!(to_read, tested, owned, startup()),
+            _ => {
+                let at = n.below(7) as usize;
+                let places = ffi::tested::field_bytes(tested.state(), tested.lent(), at);
+                // SAFETY: the table began empty, and only calls have written it.
+                assert_eq!(places, unsafe { ffi::unchecked::field_bytes(owned.state(), owned.lent(), at) });
+            }
+        }
+        assert_eq!(tested, owned);
     }
 }
 
