@@ -1,5 +1,6 @@
 // The calls on raw field bytes for hosts in C or Rust: the reader, its pairs as a list, and the add through it.
-use add_read::add_read_sound;
+mod unchecked;
+
 use add_read::add_scene_read;
 use field_pairs::PairsRead;
 use field_pairs::list_pairs;
@@ -10,9 +11,7 @@ use state::Outcome;
 use state::ScenesState;
 use words::SceneKey;
 ghost use mathlib.Core.Path.{_≡_};
-ghost use mathlib.Core.Bool.{true};
 ghost use Rattle.state.specs.Table.{tableOf};
-ghost use Rattle.state.specs.Sound.{sound};
 ghost use Rattle.state.specs.Answer.{resultOf};
 ghost use Rattle.requests.specs.Requests.{membershipOf};
 ghost use Rattle.field_sets.specs.Reader.{nextItem};
@@ -89,40 +88,6 @@ pub extern "C" fn scenes_add_read(
         ⌜ resultOf (r .status) (r .save) after ≡ addSceneRead key time (membershipOf member) (now (pairs .entry)) (now (ext .entry)) before ⌝ }
 {
     add_scene_read(
-        state,
-        keys,
-        times,
-        fields,
-        records,
-        key,
-        time,
-        Membership::of_number(member),
-        pairs,
-        ext,
-    )
-}
-
-// The same on a table that is known to be sound, as the exports of the crate `host_unchecked`.
-#[no_mangle]
-pub extern "C" fn scenes_add_read_unchecked(
-    state: ScenesState,
-    keys: &mut [u64],
-    times: &mut [u32],
-    fields: &mut [u8],
-    records: &mut [u64],
-    key: SceneKey,
-    time: u32,
-    member: u8,
-    pairs: &[u8],
-    ext: &[u8],
-) -> Outcome
-    requires { ⌜ sound (tableOf state (now keys) (now times) (now fields) (now records)) ≡ true ⌝ }
-    ensures { λ r.
-        let before = tableOf state (now (keys .entry)) (now (times .entry)) (now (fields .entry)) (now (records .entry)) in
-        let after = tableOf (r .state) (now (keys .exit)) (now (times .exit)) (now (fields .exit)) (now (records .exit)) in
-        ⌜ resultOf (r .status) (r .save) after ≡ addSceneRead key time (membershipOf member) (now (pairs .entry)) (now (ext .entry)) before ⌝ }
-{
-    add_read_sound(
         state,
         keys,
         times,

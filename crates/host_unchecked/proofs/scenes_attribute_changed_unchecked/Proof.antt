@@ -3,14 +3,8 @@ use borrow.Author.Needs.{needs}
 use Rattle.host_unchecked.proofs.scenes_attribute_changed_unchecked.Statement.{statement}
 use Rattle.host_unchecked.proofs.scenes_attribute_changed_unchecked.Tie as tie
 
-scenable-attribute-changed-requires : tie.Need-scenable-attribute-changed-requires
-scenable-attribute-changed-requires c κs = search needs
-
-same-length : tie.Need-same-length
-same-length c = search needs
-
 returns : tie.Need-returns
 returns c = c .before .before .scenable-attribute-changed .ensures
 
 pub scenes-attribute-changed-unchecked-spec : {M : Type 1} → statement M
-scenes-attribute-changed-unchecked-spec = tie.close (tie.spec scenable-attribute-changed-requires same-length returns)
+scenes-attribute-changed-unchecked-spec = tie.close (tie.spec (λ c κs. search needs) (λ c. search needs) returns)

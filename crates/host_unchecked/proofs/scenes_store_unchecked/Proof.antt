@@ -3,24 +3,6 @@ use borrow.Author.Needs.{needs}
 use Rattle.host_unchecked.proofs.scenes_store_unchecked.Statement.{statement}
 use Rattle.host_unchecked.proofs.scenes_store_unchecked.Tie as tie
 
-of-number-requires : tie.Need-of-number-requires
-of-number-requires c κs = search needs
-
-store-scene-requires : tie.Need-store-scene-requires
-store-scene-requires c κs = search needs
-
-same-length : tie.Need-same-length
-same-length c = search needs
-
-same-length-2 : tie.Need-same-length-2
-same-length-2 c = search needs
-
-same-length-3 : tie.Need-same-length-3
-same-length-3 c = search needs
-
-same-length-4 : tie.Need-same-length-4
-same-length-4 c = search needs
-
 returns : tie.Need-returns
 returns c = let d = c .before .before .before .before .before .before .before .before in rw (← d .before .of-number .ensures) (d .store-scene .ensures)
 
@@ -28,10 +10,10 @@ pub scenes-store-unchecked-spec : {M : Type 1} → statement M
 scenes-store-unchecked-spec =
     tie.close
     (tie.spec
-    of-number-requires
-    store-scene-requires
-    same-length
-    same-length-2
-    same-length-3
-    same-length-4
+    (λ c κs. search needs)
+    (λ c κs. search needs)
+    (λ c. search needs)
+    (λ c. search needs)
+    (λ c. search needs)
+    (λ c. search needs)
     returns)

@@ -3,14 +3,8 @@ use borrow.Author.Needs.{needs}
 use Rattle.host_unchecked.proofs.scenes_view_unchecked.Statement.{statement}
 use Rattle.host_unchecked.proofs.scenes_view_unchecked.Tie as tie
 
-of-number-requires : tie.Need-of-number-requires
-of-number-requires c κs = search needs
-
-view-scene-requires : tie.Need-view-scene-requires
-view-scene-requires c κs = search needs
-
 returns : tie.Need-returns
 returns c = rw (← c .before .of-number .ensures) (c .view-scene .ensures)
 
 pub scenes-view-unchecked-spec : {M : Type 1} → statement M
-scenes-view-unchecked-spec = tie.close (tie.spec of-number-requires view-scene-requires returns)
+scenes-view-unchecked-spec = tie.close (tie.spec (λ c κs. search needs) (λ c κs. search needs) returns)

@@ -1,7 +1,7 @@
 -- `host_fields::scenes_add_read_unchecked` meets its contract. Assumes nothing.
 use borrow.Author.Needs.{needs}
-use Rattle.host_fields.proofs.scenes_add_read_unchecked.Statement.{statement}
-use Rattle.host_fields.proofs.scenes_add_read_unchecked.Tie as tie
+use Rattle.host_fields.proofs.unchecked.scenes_add_read_unchecked.Statement.{statement}
+use Rattle.host_fields.proofs.unchecked.scenes_add_read_unchecked.Tie as tie
 
 returns : tie.Need-returns
 returns c =
