@@ -8,15 +8,15 @@ use crate::rows::{entry, Plan, Row, Side, FIELDS, TIME};
 pub const TITLE: &str = "Ours and the published Rust";
 
 pub const ABOUT: &str = "
-Each cell has ours, the Rust's, and their ratio: below 1 ours is faster. A number in brackets behind a row's name is a refusal, which both
-answer. A time is the median of 4,025 single calls, of a save or a load of 125, less that of a call that does nothing, in the least disturbed
-of 15 passes; the sides take turns. The table is in the cache.
+Each cell has the cost of our tested call, of our owner's call and of the Rust's, and the ratios of the first two to the last: below 1 ours is
+faster. A number in brackets behind a row's name is a refusal, which all answer. A time is the median of 4,025 single calls, of a save or a load of
+125, less that of a call that does nothing, in the least disturbed of 15 passes; the sides take turns. The table is in the cache.
 
-Ours: the call as a host makes it through the static library, with the test that the whole table is sound. A recall is two calls; a view
-hands over position and length of the fields, which are then copied. The Rust: the handler of the published scenes.rs, compiled with the driver,
-without a soundness test. Neither side has TLV but in a save and a load, and for the walk of a recalled scene's fields, which ends at once here.
-An add in share mode is ours; the Rust, which has no such mode, adds as ever. Left out of the other calls on both sides: saving (the Rust's
-storage writes nothing), the host's answers (always yes), applying.
+Tested: the call as a host makes it through the static library, with the test that the whole table is sound. Owner's: the same without the test,
+for a table that its owner alone writes. A recall is two calls; a view hands over position and length of the fields, which are then copied. The
+Rust: the handler of the published scenes.rs, compiled with the driver, without a soundness test. No side has TLV but in a save and a load, and
+for the walk of a recalled scene's fields, which ends at once here. An add in share mode is ours; the Rust, which has no such mode, adds as
+ever. Left out of the other calls on all sides: saving (the Rust's storage writes nothing), the host's answers (always yes), applying.
 
 A save writes the image into a buffer of 171 N + 8 bytes, a load takes it from there into a table that holds the same. The Rust's are the
 handler's own save and startup over a storage that is such a buffer.

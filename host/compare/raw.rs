@@ -10,11 +10,11 @@ use crate::tlv::{TLVArray, TLVElement};
 pub const TITLE: &str = "Raw field bytes: ours and the published Rust";
 
 pub const ABOUT: &str = "
-Each cell has ours, the Rust's, and their ratio: below 1 ours is faster. An add overwrites the scene in the middle, or on an empty table
-makes a new one. Its field bytes are one set, whose pairs both sides read and answer with yes: an attribute number each, without a value, with
-one of a byte, or with one of a byte in three structures. Ours, as a host does it: the reader is asked until it is done, then the add with a
-byte for each pair. The Rust: its handler, which walks the request's array by the published TLV code. All else is as in the first driver, but
-the scenes of the tables have 14 field bytes.";
+Each cell has the cost of our tested add, of our owner's add and of the Rust's, and the ratios of the first two to the last. An add overwrites
+the scene in the middle, or on an empty table makes a new one. Its field bytes are one set, whose pairs all sides read and answer with yes: an
+attribute number each, without a value, with one of a byte, or with one of a byte in three structures. Ours, as a host does it: the reader is
+asked until it is done, then the add with a byte for each pair. The Rust: its handler, which walks the request's array by the published TLV code.
+All else is as in the first driver, but the scenes of the tables have 14 field bytes.";
 
 /// An array of field sets as a request has it: what we take begins behind the control byte and the tag.
 pub type Fields = &'static [u8];

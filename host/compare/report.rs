@@ -80,7 +80,12 @@ fn measure<const N: usize>(filling: &Filling, meter: &mut impl Meter) -> Vec<Cel
     let mut cells = Vec::new();
     for ((a, b), c) in filling.rows().iter().zip(&filling.rows()).zip(&filling.rows()) {
         let status = tried(&mut published, c, plan);
-        assert_eq!([tried(&mut tested, a, plan), tried(&mut owner, b, plan)], [status; 2], "{}: the sides answer differently", a.name);
+        assert_eq!(
+            [tried(&mut tested, a, plan), tried(&mut owner, b, plan)],
+            [status; 2],
+            "{}: the sides answer differently",
+            a.name
+        );
         let mut sides = Sides { tested: (&mut tested, a), owner: (&mut owner, b), published: (&mut published, c) };
         cells.push(Cell { costs: meter.costs(&mut sides, plan), status });
     }

@@ -342,7 +342,8 @@ impl<const N: usize> Scenes<N> {
     pub fn store(&mut self, key: SceneKey, member: Membership, captured: &[u8]) -> Result<Stored, Error> {
         let (state, lent) = self.lend();
         // SAFETY: the table is sound, by the invariant of `Scenes`.
-        let ffi::Stored { state, status, save, compared } = unsafe { ffi::unchecked::store(state, lent, key, member.number(), captured) };
+        let ffi::Stored { state, status, save, compared } =
+            unsafe { ffi::unchecked::store(state, lent, key, member.number(), captured) };
         let Done { save } = self.done(Outcome { state, status, save })?;
         Ok(Stored { save, compared })
     }

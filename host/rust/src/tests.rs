@@ -1,7 +1,9 @@
 //! What nothing checks across the boundary: layouts, arguments, lengths; and a table whose memory was damaged.
 // The digits of a key word are grouped by its parts.
 #![allow(clippy::unusual_byte_groupings, unsafe_code)]
-use crate::ffi::{self, Cursor, FieldBytes, ImageSaved, InfoRead, Lent, LentMut, ListRead, Outcome, PairsRead, SceneRead, State, Stored};
+use crate::ffi::{
+    self, Cursor, FieldBytes, ImageSaved, InfoRead, Lent, LentMut, ListRead, Outcome, PairsRead, SceneRead, State, Stored,
+};
 use crate::*;
 use core::mem::{offset_of, size_of};
 
@@ -160,7 +162,10 @@ fn every_number_means_something() {
         assert_eq!(ffi::tested::recall(state, lent, key, 1, applied).status, if applied == 1 { 0 } else { 4 });
     }
     for single in 0..=255 {
-        assert_eq!(ffi::tested::read_info(table.state(), table.lent(), 0x12, 0x3456, single).status, if single == 0 { 0 } else { 5 });
+        assert_eq!(
+            ffi::tested::read_info(table.state(), table.lent(), 0x12, 0x3456, single).status,
+            if single == 0 { 0 } else { 5 }
+        );
     }
 }
 

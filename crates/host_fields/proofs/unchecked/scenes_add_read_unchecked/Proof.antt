@@ -3,6 +3,10 @@ use borrow.Author.Needs.{needs}
 use Rattle.host_fields.proofs.unchecked.scenes_add_read_unchecked.Statement.{statement}
 use Rattle.host_fields.proofs.unchecked.scenes_add_read_unchecked.Tie as tie
 
+-- the condition is the one that the host meets
+add-read-sound-requires : tie.Need-add-read-sound-requires
+add-read-sound-requires c κs = c .before .before .before .before .before .before .before .before .before .before .before .pre
+
 returns : tie.Need-returns
 returns c =
     let d = c .before .before .before .before .before .before .before .before in
@@ -13,7 +17,7 @@ scenes-add-read-unchecked-spec =
     tie.close
     (tie.spec
     (λ c κs. search needs)
-    (λ c κs. search needs)
+    add-read-sound-requires
     (λ c. search needs)
     (λ c. search needs)
     (λ c. search needs)
