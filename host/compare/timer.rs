@@ -1,5 +1,5 @@
 //! The time of one call: the median of many rounds, by the processor's time stamp.
-use std::arch::x86_64::{_mm_lfence, _rdtsc};
+use std::arch::x86_64::{_mm_lfence, _mm_mfence, _rdtsc};
 use std::hint::black_box;
 use std::time::{Duration, Instant};
 
@@ -39,8 +39,10 @@ fn round<S: Side>(side: &mut S, plan: Plan, writes: bool, call: fn(&mut S, Plan)
     for _ in 0..CALLS {
         if writes {
             side.restore();
-            // Walks the table, so that the call finds it in the cache as it would have been.
+            // Walks the table, so that the call finds it in the cache as it would have been, and waits until all is written.
             side.view(plan.absent());
+            // SAFETY: every x86-64 processor has it.
+            unsafe { _mm_mfence() };
         }
         let from = now();
         black_box(call(black_box(side), black_box(plan)));
