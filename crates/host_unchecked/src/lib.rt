@@ -323,7 +323,7 @@ pub extern "C" fn scenes_read_info_unchecked(
     )
 }
 
-// not sound.
+// Where the field bytes of the entry at a position lie in the lent slice: 0 and 0 past the entries, and with length 0.
 #[no_mangle]
 pub extern "C" fn scenes_field_bytes_unchecked(
     state: ScenesState,
