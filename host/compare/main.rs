@@ -3,6 +3,7 @@
 #[macro_use]
 mod quiet;
 
+mod alike;
 mod counter;
 mod dm;
 #[cfg_attr(not(raw), path = "calls.rs")]

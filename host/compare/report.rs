@@ -1,4 +1,5 @@
 //! Fills the tables, measures every row, and prints Markdown.
+use crate::alike;
 use crate::counter::{Caller, Counts};
 use crate::driver::{rows, ABOUT, TITLE};
 use crate::ours::Ours;
@@ -166,7 +167,8 @@ fn panels(columns: &[Vec<Cell>]) -> Vec<Panel> {
     rows.iter().enumerate().filter(|(_, row)| !row.image).map(panel).collect()
 }
 
-/// `times PICTURE`: nanoseconds. `calls`: the calls alone, for callgrind. `counts FOLDER`: what callgrind counted.
+/// `alike SEED CALLS`: calls at random, which all sides must answer alike. `times PICTURE`: nanoseconds. `calls`: the calls alone, for
+/// callgrind. `counts FOLDER`: what callgrind counted.
 pub fn main() {
     let arguments: Vec<String> = std::env::args().skip(1).collect();
     match arguments.iter().map(String::as_str).collect::<Vec<_>>()[..] {
@@ -178,11 +180,12 @@ pub fn main() {
             let cells = tables(&mut timer);
             std::fs::write(picture, picture::svg(&panels(&cells[0]), &SIZES)).unwrap();
         }
+        ["alike", seed, calls] => alike::run(seed.parse().unwrap(), calls.parse().unwrap()),
         ["calls"] => drop(tables(&mut Caller)),
         ["counts", folder] => {
             println!("\n## Instructions of a call");
             tables(&mut Counts { folder: folder.into(), read: 0 });
         }
-        _ => panic!("usage: compare times PICTURE | calls | counts FOLDER"),
+        _ => panic!("usage: compare alike SEED CALLS | times PICTURE | calls | counts FOLDER"),
     }
 }
