@@ -9,8 +9,9 @@ pub const TITLE: &str = "Ours and the published Rust";
 
 pub const ABOUT: &str = "
 Each cell has the cost of our tested call, of our owner's call and of the Rust's, and the ratios of the first two to the last: below 1 ours is
-faster. A number in brackets behind a row's name is a refusal, which all answer. A time is the median of 4,025 single calls, of a save or a load of
-125, less that of a call that does nothing, in the least disturbed of 15 passes; the sides take turns. The table is in the cache.
+faster. A number in brackets behind a row's name is a refusal, which all answer. A time is the mean of 4,025 single calls, of a save or a load of
+125, without the shortest and the longest twentieth, less that of a call that does nothing, in the least disturbed of 15 passes; the sides take
+turns. The table is in the cache.
 
 Tested: the call as a host makes it through the static library, with the test that the whole table is sound. Owner's: the same without the test,
 for a table that its owner alone writes. A recall is two calls; a view hands over position and length of the fields, which are then copied. The

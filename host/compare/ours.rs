@@ -1,4 +1,6 @@
 //! The exported calls: those that test the table, and those that leave that to its owner. A recall is its two calls.
+use std::sync::atomic::{compiler_fence, Ordering};
+
 use crate::driver::{self, Fields};
 use crate::ffi::{self, tested, unchecked, Lent, LentMut, Outcome, State};
 use crate::requests::modes::SHARE;
@@ -55,8 +57,18 @@ impl<const TESTED: bool> Ours<TESTED> {
         Lent { keys, times, fields, records }
     }
 
+    // Keeps the head that came back, as `Scenes` of host/rust does: its counts are read one by one.
+    fn keep_head(&mut self, state: State) {
+        let head = &mut self.now.state;
+        head.entries = state.entries;
+        compiler_fence(Ordering::SeqCst);
+        head.recorded = state.recorded;
+        head.dataver = state.dataver;
+        head.modes = state.modes;
+    }
+
     fn done(&mut self, outcome: Outcome) -> u8 {
-        self.now.state = outcome.state;
+        self.keep_head(outcome.state);
         outcome.status
     }
 }
@@ -75,7 +87,7 @@ impl<const TESTED: bool> Side for Ours<TESTED> {
     fn store(&mut self, key: SceneKey) -> u8 {
         let (state, lent) = self.lend();
         let stored = call!(store(state, lent, key, YES, &FIELDS[..15]));
-        self.now.state = stored.state;
+        self.keep_head(stored.state);
         stored.status
     }
     fn view(&mut self, key: SceneKey) -> u8 {

@@ -1,4 +1,5 @@
-//! The time of one call: the median of many rounds, by the processor's time stamp.
+//! The time of one call: the mean of many, without the shortest and the longest twentieth, by the processor's time stamp. Where the time stamp goes
+//! in steps, as it does on some machines by ten nanoseconds, a mean is finer than they are, and a median is not.
 use std::arch::x86_64::{_mm_lfence, _mm_mfence, _rdtsc};
 use std::hint::black_box;
 use std::time::{Duration, Instant};
@@ -50,9 +51,11 @@ fn round<S: Side>(side: &mut S, plan: Plan, writes: bool, call: fn(&mut S, Plan)
     }
 }
 
-fn median(ticks: &mut [u64]) -> f64 {
+fn mean(ticks: &mut [u64]) -> f64 {
     ticks.sort_unstable();
-    ticks[ticks.len() / 2] as f64
+    let outer = ticks.len() / 20;
+    let inner = &ticks[outer..ticks.len() - outer];
+    inner.iter().sum::<u64>() as f64 / inner.len() as f64
 }
 
 impl Meter for Timer {
@@ -74,7 +77,7 @@ impl Meter for Timer {
         a.restore();
         b.restore();
         c.restore();
-        let [tested, owner, published, none] = ticks.map(|mut ticks| median(&mut ticks));
+        let [tested, owner, published, none] = ticks.map(|mut ticks| mean(&mut ticks));
         let cost = |ticks: f64| (ticks - none).max(0.0) * self.tick;
         Costs { tested: cost(tested), owner: cost(owner), published: cost(published) }
     }

@@ -194,7 +194,7 @@ macro_rules! write {
 // The calls of a table, twice: `tested` has those of host/scenes.h, which answer 6 if the table is not sound, and `unchecked` those of
 // host/scenes_unchecked.h, which ask that it is. Behind the equals sign stand both symbols, and what is passed for each of their parameters
 // beyond the head and the lent memory. SAFETY of either: each pointer comes from a slice, with that slice's length; what is written is
-// borrowed exclusively; and every byte pattern is a value of an answer.
+// borrowed exclusively; and every byte pattern is a value of an answer. They are inlined, also into the crates of hosts: a call is then one call.
 macro_rules! calls {
     ($($lent:ident, $at:ident, $p:ident: {
         $(fn $name:ident($($arg:ident: $ty:ty),*) -> $answer:ty = $tested:ident, $unchecked:ident($($passed:expr => $as:ty),*);)*
@@ -206,6 +206,7 @@ macro_rules! calls {
 
             $($(declared! { $p: $tested($($as),*) -> $answer }
 
+            #[inline]
             pub(crate) fn $name(state: State, lent: $lent<'_>, $($arg: $ty),*) -> $answer {
                 let (k, t, f, r) = (lent.keys, lent.times, lent.fields, lent.records);
                 unsafe { $tested(state, k.$at(), k.len(), t.$at(), t.len(), f.$at(), f.len(), r.$at(), r.len(), $($passed),*) }
@@ -219,6 +220,7 @@ macro_rules! calls {
 
             $($(declared! { $p: $unchecked($($as),*) -> $answer }
 
+            #[inline]
             pub(crate) unsafe fn $name(state: State, lent: $lent<'_>, $($arg: $ty),*) -> $answer {
                 let (k, t, f, r) = (lent.keys, lent.times, lent.fields, lent.records);
                 $unchecked(state, k.$at(), k.len(), t.$at(), t.len(), f.$at(), f.len(), r.$at(), r.len(), $($passed),*)
@@ -230,6 +232,7 @@ macro_rules! calls {
 declared! { read: scenes_is_sound() -> u8 }
 
 /// Whether a table is sound.
+#[inline]
 pub(crate) fn is_sound(state: State, lent: Lent<'_>) -> bool {
     let Lent { keys: k, times: t, fields: f, records: r } = lent;
     // SAFETY: as above.

