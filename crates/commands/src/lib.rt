@@ -133,7 +133,8 @@ impl Commands {
         }
         let n = state.entries;
         let found = slots::find(keys, n, key.word());
-        state.upsert_scene(keys, times, fields, records, found, key, time, ext)
+        let place = state.place(keys, found, key.fabric);
+        state.upsert_scene(keys, times, fields, records, place, key, time, ext)
     }
 
     // Stores captured bytes as a scene, and remembers it as the fabric's current one.
@@ -209,12 +210,13 @@ impl Commands {
         let len = end_capture(&mut scratch, captured);
         let before = self.state;
         let time = prior_time(found, times);
+        let place = before.place(keys, found, key.fabric);
         let done = before.upsert_scene(
             keys,
             times,
             fields,
             records,
-            found,
+            place,
             key,
             time,
             &scratch[..len],

@@ -1,8 +1,8 @@
 -- What the cap of the remaining capacity changes, and what the share mode. Assumes nothing.
 use Prim.Native.Nat.{ℕ, _-_, _/_, _≤_, _<_, min}
 use mathlib.Core.Path.{_≡_, refl, sym, ap, _∙_}
-use mathlib.Core.Logic.{_↔_}
-use mathlib.Core.Bool.{true, false, not}
+use mathlib.Core.Logic.{_↔_, _⊎_, inl, inr}
+use mathlib.Core.Bool.{Bool, true, false, not, cond}
 use mathlib.Core.List.{List}
 use native.Mathlib.Omega.{arith}
 use lib.Dec.{eqb, ltb}
@@ -10,8 +10,10 @@ use borrow.Author.Tests.{ltb-true, ltb-false, lt-ltb, le-ltb, eq-eqb, ne-eqb}
 use Rattle.words.specs.Constants.{maxRemaining}
 use Rattle.words.specs.Below.{countBelow}
 use Rattle.slots.specs.Slots.{countKeys}
+use Rattle.words.specs.declared.Found.{Found}
+use Rattle.words.specs.declared.Found.the-variants.{At, Nothing}
 use Rattle.state.specs.declared.ScenesState.{ScenesState}
-use Rattle.state.specs.Capacity.{roomFor, remaining, shareMode, placesFor, mayAppend, byteRemaining, ByCap, ByShare}
+use Rattle.state.specs.Capacity.{roomFor, remaining, shareMode, placesFor, mayAppend, placeFor, byteRemaining, ByCap, ByShare}
 
 module _ (s : ScenesState) (keys : List ℕ) (fabric : ℕ) where
   smaller : remaining s keys fabric ≡ min maxRemaining (byteRemaining s keys fabric)
@@ -93,3 +95,26 @@ module _ (s : ScenesState) (keys : List ℕ) (fabric : ℕ) where
 
 pub by-share : ByShare
 by-share = record { without = may-free; within = within; uncut = uncut; free = places-free }
+
+-- ---- where a scene is written
+
+module _ (s : ScenesState) (keys : List ℕ) (fabric : ℕ) where
+  -- where its key was found, or behind the last entry
+  pub placed : (f : Found) (p : ℕ) → placeFor s keys fabric f ≡ At p → (f ≡ At p) ⊎ ((f ≡ Nothing) × (mayAppend s keys fabric ≡ true) × (s .entries ≡ p))
+  unfolding placeFor
+  placed (At q) p e = inl e
+  placed Nothing p e =
+      (elim (mayAppend s keys fabric) as (λ b. mayAppend s keys fabric ≡ b → cond b (At (s .entries)) Nothing ≡ At p → (Nothing ≡ At p) ⊎ ((Nothing ≡ Nothing) × (mayAppend s keys fabric ≡ true) × (s .entries ≡ p))) [
+        | true ↦ λ m q. inr (refl, m, cc)
+        | false ↦ λ m q. inl q
+      ]) refl e
+
+  -- nowhere: its key is new, and no more entry fits
+  pub unplaced : (f : Found) → placeFor s keys fabric f ≡ Nothing → (f ≡ Nothing) × (mayAppend s keys fabric ≡ false)
+  unfolding placeFor
+  unplaced (At q) e = let z : _≡_ {A = ℕ} 0 1 = cc in let w : ⊥ = omega arith in absurd w
+  unplaced Nothing e =
+      (elim (mayAppend s keys fabric) as (λ b. mayAppend s keys fabric ≡ b → cond b (At (s .entries)) Nothing ≡ Nothing → (_≡_ {A = Found} Nothing Nothing) × (mayAppend s keys fabric ≡ false)) [
+        | true ↦ λ m q. let z : _≡_ {A = ℕ} 0 1 = cc in let w : ⊥ = omega arith in absurd w
+        | false ↦ λ m q. (refl, m)
+      ]) refl e

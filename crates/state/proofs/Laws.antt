@@ -1,10 +1,13 @@
 -- The laws of the definitions, as their callers meet them. Assumes nothing.
 use Prim.Native.Nat.{ℕ, _+_, _*_, _≤_, _<_}
-use mathlib.Core.Path.{_≡_, refl, sym, ap, _∙_, subst⁻¹}
+use mathlib.Core.Path.{_≡_, refl, sym, ap, _∙_, subst, subst⁻¹}
 use mathlib.Core.Bool.{Bool, true, false, cond}
 use mathlib.Core.List.{List}
+use mathlib.Core.Logic.{⊎-elim}
+use native.Mathlib.Omega.{arith}
+use lib.Dec.{eqb}
 use lib.ListN.{length}
-use borrow.Author.Tests.{leb-true}
+use borrow.Author.Tests.{leb-true, eq-eqb, ne-eqb}
 use Rattle.words.specs.Constants.{maxScenes, maxFields, stride, success, insufficientSpace}
 use Rattle.words.specs.Words.{wordOf}
 use Rattle.words.specs.declared.Found.{Found}
@@ -17,10 +20,10 @@ use Rattle.records.specs.declared.Scope.the-variants.{Scene}
 use Rattle.state.specs.declared.ScenesState.{ScenesState}
 use Rattle.state.specs.Table.{Table, tableOf, currentOf, Room, withEntries, withEntryCount}
 use Rattle.state.specs.Sound.{inBounds, sound}
-use Rattle.state.specs.Capacity.{shareMode, mayAppend}
+use Rattle.state.specs.Capacity.{shareMode, mayAppend, placeFor}
 use Rattle.state.specs.Current.{invalidateCurrent}
 use Rattle.state.specs.Change.{findScene, putAt, append, Upserted, upsertedOf, written, upsertAt, upsert, plainAt, UpsertByShare}
-use Rattle.state.proofs.Capacity.{may-free}
+use Rattle.state.proofs.Capacity.{may-free, may-fits, placed}
 
 -- ---- soundness
 
@@ -72,6 +75,17 @@ pub found-under : (keys : List ℕ) (n key p : ℕ) → firstKey keys n key ≡ 
 unfolding firstKey
 found-under keys n key p e = first-under _ n p e .0
 
+-- a scene's place is one of the table's
+pub placed-within : (key : SceneKey) (t : Table) (p : ℕ)
+    → t .state .entries ≤ t .state .size
+    → placeFor (t .state) (t .slots .keys) (key .fabric) (findScene key t) ≡ At p
+    → p < t .state .size
+placed-within key t p h e =
+    ⊎-elim
+    (λ known. let under = found-under (t .slots .keys) (t .state .entries) _ p known in omega arith)
+    (λ new. let fits = may-fits (t .state) (t .slots .keys) (key .fabric) (new .1) in omega (arith, new .2))
+    (placed (t .state) (t .slots .keys) (key .fabric) (findScene key t) p e)
+
 -- ---- upsert
 
 -- what was not found, by whether one more entry fits
@@ -101,7 +115,7 @@ upsert-by-share = record {
 -- the slots and the records that the code leaves are the definition's; w is the key's word
 
 module _ (key : SceneKey) (time : ℕ) (ext : List ℕ) (t : Table) (s : ScenesState) (k tm f r : List ℕ) (w : ℕ) (word : w ≡ wordOf key) where
-  pub upsert-known : (p : ℕ)
+  upsert-known : (p : ℕ)
       → findScene key t ≡ At p
       → slotsOf k tm f ≡ putSlot p w time ext (t .slots)
       → currentOf s r ≡ invalidateCurrent (Scene key) (currentOf (t .state) (t .records))
@@ -111,7 +125,7 @@ module _ (key : SceneKey) (time : ℕ) (ext : List ℕ) (t : Table) (s : ScenesS
       let put : slotsOf k tm f ≡ putSlot p (wordOf key) time ext (t .slots) = rw (← word) e1 in
       rw e (λ i. upsertedOf success (record { state = e2 i .state; slots = put i; records = e2 i .records }))
 
-  pub upsert-new :
+  upsert-new :
       findScene key t ≡ Nothing
       → mayAppend (t .state) (t .slots .keys) (key .fabric) ≡ true
       → slotsOf k tm f ≡ putSlot (t .state .entries) w time ext (t .slots)
@@ -122,6 +136,28 @@ module _ (key : SceneKey) (time : ℕ) (ext : List ℕ) (t : Table) (s : ScenesS
       let put : slotsOf k tm f ≡ putSlot (t .state .entries) (wordOf key) time ext (t .slots) = rw (← word) e1 in
       (λ i. upsertedOf success (record { state = e2 i .state; slots = put i; records = e2 i .records }))
       ∙ may-decide key time ext t e m
+
+  -- what an upsert at a position leaves of head and records, by whether it is behind the last entry
+  abbrev left : Bool → ℕ → Type 0
+  left b p =
+      currentOf s r ≡ invalidateCurrent (Scene key) (currentOf (withEntryCount (cond b (p + 1) (t .state .entries)) (t .state)) (t .records))
+
+  -- at its place, wherever that is
+  pub upsert-placed : (p : ℕ)
+      → placeFor (t .state) (t .slots .keys) (key .fabric) (findScene key t) ≡ At p
+      → slotsOf k tm f ≡ putSlot p w time ext (t .slots)
+      → left (eqb p (t .state .entries)) p
+      → upsertedOf success (tableOf s k tm f r) ≡ upsert key time ext t
+  upsert-placed p e e1 e2 =
+      ⊎-elim
+      (λ h.
+      let under = found-under (t .slots .keys) (t .state .entries) _ p h in
+      upsert-known p h e1 (subst (λ (b : Bool). left b p) (ne-eqb p (t .state .entries) (λ q. omega (arith, q, under))) e2))
+      (λ h.
+      let last : p ≡ t .state .entries = sym (h .2) in
+      upsert-new (h .0) (h .1) (subst (λ (q : ℕ). slotsOf k tm f ≡ putSlot q w time ext (t .slots)) last e1)
+      (subst (left true) last (subst (λ (b : Bool). left b p) (eq-eqb _ _ last) e2)))
+      (placed (t .state) (t .slots .keys) (key .fabric) (findScene key t) p e)
 
 -- an upsert keeps the size, the modes and how many records there are
 pub record SameHead (t : Table) (u : Upserted) : Type 0 where

@@ -8,6 +8,8 @@ use mathlib.Core.List.{List}
 use lib.Dec.{eqb, ltb}
 use Rattle.words.specs.Constants.{maxShown, maxRemaining}
 use Rattle.words.specs.Words.{fabricKeys}
+use Rattle.words.specs.declared.Found.{Found}
+use Rattle.words.specs.declared.Found.the-variants.{At, Nothing}
 use Rattle.slots.specs.Slots.{countKeys}
 use Rattle.state.specs.declared.ScenesState.{ScenesState}
 
@@ -34,6 +36,11 @@ placesFor s keys fabric = cond (shareMode s) (roomFor s keys fabric) (s .size - 
 -- whether one more entry of a fabric fits
 abbrev pub mayAppend : ScenesState → List ℕ → ℕ → Bool
 mayAppend s keys fabric = ltb 0 (placesFor s keys fabric)
+
+-- where a scene is written, if anywhere: where its key was found, or else behind the last entry, if one more fits
+unfoldable pub placeFor : ScenesState → List ℕ → ℕ → Found → Found
+placeFor s keys fabric (At p) = At p
+placeFor s keys fabric Nothing = cond (mayAppend s keys fabric) (At (s .entries)) Nothing
 
 -- ---- the theorem of Q-4: what the smaller cap changes
 

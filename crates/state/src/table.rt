@@ -12,14 +12,16 @@ use words::Slot;
 use words::Status;
 use words::least;
 ghost use mathlib.Core.Path.{_≡_};
-ghost use Prim.Native.Nat.{_*_, _-_, _<_, _≤_};
+ghost use mathlib.Core.Bool.{cond};
+ghost use Prim.Native.Nat.{_+_, _*_, _-_, _<_, _≤_};
+ghost use lib.Dec.{eqb};
 ghost use lib.ListN.{length};
 ghost use Rattle.words.specs.Constants.{stride, maxFields};
 ghost use Rattle.words.specs.Words.{wordOf};
 ghost use Rattle.slots.specs.Slots.{firstKey, searched};
-ghost use Rattle.state.specs.Table.{tableOf, entriesOf, Room};
+ghost use Rattle.state.specs.Table.{tableOf, entriesOf, withEntryCount, Room};
 ghost use Rattle.state.specs.Sound.{inBounds, sound};
-ghost use Rattle.state.specs.Capacity.{roomFor, remaining, shareMode, mayAppend};
+ghost use Rattle.state.specs.Capacity.{roomFor, remaining, shareMode, mayAppend, placeFor};
 ghost use Rattle.state.specs.Answer.{resultOf};
 ghost use Rattle.state.specs.Change.{saved, upsert, swapRemove, retainOutside};
 
@@ -142,45 +144,63 @@ impl ScenesState {
         self.entries < self.size
     }
 
-    // Writes a scene where its key was found, or behind the last entry, and invalidates its records.
+    // Where a scene of a fabric is written: where its key was found, or behind the last entry, if one more fits.
+    pub fn place(self, keys: &[u64], found: Found, fabric: u8) -> Found
+        requires { ⌜ self .entries ≤ length (now keys) ⌝ }
+        ensures { λ r. ⌜ r ≡ placeFor self (now (keys .entry)) fabric found ⌝ }
+    {
+        let Found::At(at) = found else {
+            let n = self.entries;
+            if self.may_append(keys, fabric) {
+                return Found::At(n);
+            }
+            return Found::Nothing;
+        };
+        Found::At(at)
+    }
+
+    // The head of a table with an entry written at a position: one more, if it is behind the last.
+    fn with_entry(mut self, at: usize) -> ScenesState
+        requires { ⌜ at < self .size ⌝ }
+        ensures { λ r. ⌜ r ≡ withEntryCount (cond (eqb at (self .entries)) (at + 1) (self .entries)) self ⌝ }
+    {
+        if at == self.entries {
+            self.entries = at + 1;
+            return self;
+        }
+        self
+    }
+
+    // Writes a scene at its place, if it has one, and invalidates its records. The caller has decided the place: what is left here is small
+    // enough that the compiler inlines it, and the table is not handed over once more.
     pub fn upsert_scene(
-        mut self,
+        self,
         keys: &mut [u64],
         times: &mut [u32],
         fields: &mut [u8],
         records: &mut [u64],
-        found: Found,
+        place: Found,
         key: SceneKey,
         time: u32,
         ext: &[u8],
     ) -> Outcome
         requires { ⌜ Room (tableOf self (now keys) (now times) (now fields) (now records)) ⌝ }
-        requires { ⌜ found ≡ firstKey (now keys) (self .entries) (wordOf key) ⌝ }
+        requires { ⌜ place ≡ placeFor self (now keys) (key .fabric) (firstKey (now keys) (self .entries) (wordOf key)) ⌝ }
         requires { ⌜ length (now ext) ≤ maxFields ⌝ }
         ensures { λ r.
             let before = tableOf self (now (keys .entry)) (now (times .entry)) (now (fields .entry)) (now (records .entry)) in
             let after = tableOf (r .state) (now (keys .exit)) (now (times .exit)) (now (fields .exit)) (now (records .exit)) in
             ⌜ resultOf (r .status) (r .save) after ≡ saved (upsert key time (now (ext .entry)) before) ⌝ }
     {
-        let word = key.word();
-        let Found::At(at) = found else {
-            let n = self.entries;
-            if self.may_append(keys, key.fabric) {
-                slot_writes::put(keys, times, fields, n, word, time, ext);
-                self.entries = n + 1;
-                return Outcome {
-                    status: Status::SUCCESS,
-                    save: true,
-                    state: self.invalidate_current(records, Scope::Scene(key)),
-                };
-            }
+        let Found::At(at) = place else {
             return Outcome::unsaved(Status::SC_INSUFFICIENT_SPACE, self);
         };
-        slot_writes::put(keys, times, fields, at, word, time, ext);
+        slot_writes::put(keys, times, fields, at, key.word(), time, ext);
+        let state = self.with_entry(at);
         Outcome {
             status: Status::SUCCESS,
             save: true,
-            state: self.invalidate_current(records, Scope::Scene(key)),
+            state: state.invalidate_current(records, Scope::Scene(key)),
         }
     }
 

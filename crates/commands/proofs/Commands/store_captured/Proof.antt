@@ -7,6 +7,7 @@ use lib.ListN.{length, length-append}
 use Rattle.words.specs.Constants.{success, endOfContainer}
 use Rattle.words.specs.declared.Found.{Found}
 use Rattle.state.specs.Table.{Table, tableOf, withCurrent}
+use Rattle.state.specs.Capacity.{placeFor}
 use Rattle.state.specs.Current.{rememberCurrent}
 use Rattle.state.specs.Change.{findScene, Upserted, upsertedOf, upsert}
 use Rattle.state.specs.Answer.{Result, resultOf}
@@ -27,8 +28,11 @@ start c = c .before .before .before .before .before .before .before
 abbrev ended : tie.After-prior-time → tie.After-end-capture
 ended c = c .before .before .before .before
 
-abbrev prior : tie.After-scratch3 → tie.After-prior-time
-prior c = c .before .before .before .before .before
+abbrev placed : tie.After-scratch3 → tie.After-place
+placed c = c .before .before .before .before .before
+
+abbrev prior : tie.After-place → tie.After-prior-time
+prior c = c .before .before
 
 abbrev upserted : tie.After-state → tie.After-upsert-scene
 upserted c = c .before .before .before .before .before .before .before .before .before
@@ -52,7 +56,7 @@ abbrev after : tie.After-upsert-scene → Upserted
 after c = upsertedOf (answered c .status) (answered c .table)
 
 abbrev entered : tie.After-upsert-scene → tie.After-end-capture
-entered c = ended (prior (c .before))
+entered c = ended (prior (placed (c .before)))
 
 told : (c : tie.After-upsert-scene)
     → (let a = start (entered c) .args in
@@ -60,18 +64,22 @@ told : (c : tie.After-upsert-scene)
     after c ≡ upsert (a .key) (priorTime (findScene (a .key) t) (a .times .now)) (a .captured .now ++ (endOfContainer ∷ [])) t)
 told c =
     upserted-prior (start (entered c) .args .key) _ _ (came (entered c)) (answered c) _ _ (c .upsert-scene .ensures)
-    (prior (c .before) .prior-time .ensures) (start (entered c) .pre .1 .0) (entered c .end-capture .ensures .1)
+    (prior (placed (c .before)) .prior-time .ensures) (start (entered c) .pre .1 .0) (entered c .end-capture .ensures .1)
 
 slice-aggregate-upsert-scene : tie.Need-slice-aggregate-upsert-scene
 slice-aggregate-upsert-scene c =
-    let e = ended (prior c) in
+    let e = ended (prior (placed c)) in
     omega (arith, captured-length e, ap length (e .end-capture .ensures .1))
+
+place-requires : tie.Need-place-requires
+place-requires c κs = let room = start (ended (c .before)) .pre .0 in omega arith
 
 upsert-scene-requires : tie.Need-upsert-scene-requires
 upsert-scene-requires c κs =
-    let e = ended (prior c) in
+    let p = placed c in
+    let e = ended (prior p) in
     let s = start e in
-    (s .pre .0, (s .pre .1 .0, omega (arith, s .pre .1 .1, ap length (e .end-capture .ensures .1), length-append (s .args .captured .now) (endOfContainer ∷ []))))
+    (s .pre .0, (p .place .ensures ∙ ap (placeFor _ _ _) (s .pre .1 .0), omega (arith, s .pre .1 .1, ap length (e .end-capture .ensures .1), length-append (s .args .captured .now) (endOfContainer ∷ []))))
 
 returns : tie.Need-returns
 unfolding storeCaptured
@@ -118,6 +126,7 @@ store-captured-spec =
     (λ c. search needs)
     (λ c κs. search needs)
     (λ c κs. search needs)
+    place-requires
     (λ c. search needs)
     slice-aggregate-upsert-scene
     upsert-scene-requires
