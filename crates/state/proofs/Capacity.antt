@@ -1,17 +1,17 @@
--- What the cap of the remaining capacity changes, and what the share mode. Assumes nothing.
+-- What the cap of the remaining capacity changes, what the share mode, and where a scene is written. Assumes nothing.
 use Prim.Native.Nat.{ℕ, _-_, _/_, _≤_, _<_, min}
 use mathlib.Core.Path.{_≡_, refl, sym, ap, _∙_}
 use mathlib.Core.Logic.{_↔_, _⊎_, inl, inr}
-use mathlib.Core.Bool.{Bool, true, false, not, cond}
+use mathlib.Core.Bool.{true, false, not, cond}
 use mathlib.Core.List.{List}
 use native.Mathlib.Omega.{arith}
 use lib.Dec.{eqb, ltb}
 use borrow.Author.Tests.{ltb-true, ltb-false, lt-ltb, le-ltb, eq-eqb, ne-eqb}
 use Rattle.words.specs.Constants.{maxRemaining}
 use Rattle.words.specs.Below.{countBelow}
-use Rattle.slots.specs.Slots.{countKeys}
 use Rattle.words.specs.declared.Found.{Found}
 use Rattle.words.specs.declared.Found.the-variants.{At, Nothing}
+use Rattle.slots.specs.Slots.{countKeys}
 use Rattle.state.specs.declared.ScenesState.{ScenesState}
 use Rattle.state.specs.Capacity.{roomFor, remaining, shareMode, placesFor, mayAppend, placeFor, byteRemaining, ByCap, ByShare}
 
