@@ -60,6 +60,10 @@ clashingImage = 10
 abbrev pub badFieldSets : ℕ
 badFieldSets = 11
 
+-- all memberships taken, and one that is new: document 02, Q-7
+abbrev pub membershipsFull : ℕ
+membershipsFull = 12
+
 -- pair bytes: the attribute is not scenable, or it is of a cluster that is not known
 abbrev pub notScenable : ℕ
 notScenable = 0
@@ -101,3 +105,7 @@ maxShown = 255
 -- the most that an answer says of a remaining capacity: document 02, Q-4
 abbrev pub maxRemaining : ℕ
 maxRemaining = 253
+
+-- the most memberships that are held: document 02, Q-7
+abbrev pub maxMemberships : ℕ
+maxMemberships = 256

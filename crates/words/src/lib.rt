@@ -43,6 +43,8 @@ impl Fault {
     pub const CLASHING_IMAGE: u8 = 10;
 
     pub const BAD_FIELD_SETS: u8 = 11;
+
+    pub const MEMBERSHIPS_FULL: u8 = 12;
 }
 
 // Scene ids that no command may name.
@@ -79,6 +81,9 @@ impl Limits {
 
     // The most that is reported of a remaining capacity.
     pub const MAX_REMAINING_CAPACITY: usize = 253;
+
+    // The most memberships that are held.
+    pub const MAX_MEMBERSHIPS: usize = 256;
 }
 
 // How an entry lies in the lent field bytes: its length, then room for its fields.
