@@ -6,13 +6,13 @@
 -- Calls: `Effects` and `Laws` say what each call does, over views; `Acts` and its kin prove it of the definitions, with
 -- `Losses`; `Calls` has all of it.
 -- The equivalence: `Invariant` and `Simulation` are about views alone, with `Bits`, `Choices`, `Places`, `Order` and `CopyViews`; `Passed` has
--- requests that are let through. `Respond` and `RespondCopy` say that commands keep both, `Probes` what tells two views apart. `Reach`, `Forward` and
--- `Backward` bring this to tables, and `Theorem` has the theorems.
+-- requests that are let through. `Respond` and `RespondCopy` say that commands keep both, `Probes` what tells two views apart. `Reach`, `Forward`,
+-- `Backward` and, for lists whose memberships are inputs, `Asked` bring this to tables, and `Theorem` has the theorems.
 -- What follows: `Readings`, in share mode `ShareReadings` and of a store's count `CountReadings` have counterexamples to nearby readings, `Removal`
 -- what a fabric's removal leaves, `Numbers` the numbers that each call can answer, `Unsound` what a table that is not sound is answered, `Refusals`
 -- that a refusal is its number alone and that 11 is decided by the inputs alone, `Midway` what a copy that ran out leaves, `Modes` that no call
 -- changes the modes, `Share` what the share mode promises, `FieldBytes` whose fields an answered position has, `Buffers` what a scene list buffer
--- counts for, `Owned` that a sound table stays sound through a host's calls.
+-- counts for, `Owned` that a sound table stays sound through a host's calls, `Brought` which scenes a command can bring.
 pub mod Lists
 pub mod Lookups
 pub mod Changes
@@ -48,6 +48,7 @@ pub mod Probes
 pub mod Reach
 pub mod Forward
 pub mod Backward
+pub mod Asked
 pub mod Theorem
 pub mod Numbers
 pub mod Unsound
@@ -62,3 +63,4 @@ pub mod Removal
 pub mod FieldBytes
 pub mod Buffers
 pub mod Owned
+pub mod Brought

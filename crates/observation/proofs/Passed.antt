@@ -30,27 +30,32 @@ fabric-let f h = rw (ne-eqb f 0 (omega arith)) refl
 scene-let : (s : ℕ) → reserved s ≡ false → sceneGate s ≡ 0
 scene-let s r = rw r refl
 
-member-let : (g : ℕ) → memberGate g Yes ≡ 0
+-- yes to any group, and any answer to group 0
+pub member-let : (g : ℕ) → memberGate g Yes ≡ 0
 unfolding memberGate
 member-let g = cond-elim (λ (n : ℕ). n ≡ 0) (eqb g 0) (λ _. refl) (λ _. refl)
 
-module _ (key : SceneKey) (n : Named key) where
-  may-name : (rs : List ℕ) → firstRefusal rs ≡ 0 → firstRefusal (fabricGate (key .fabric) ∷ sceneGate (key .scene) ∷ rs) ≡ 0
-  may-name rs z = more _ _ (fabric-let (key .fabric) (n .fabric)) (more _ _ (scene-let (key .scene) (n .scene)) z)
+pub free-let : (m : Membership) → memberGate 0 m ≡ 0
+unfolding memberGate
+free-let m = refl
 
-  pub lookup-let : lookupGate key Yes ≡ 0
+module _ (key : SceneKey) (n : Named key) (m : Membership) (z : memberGate (key .group) m ≡ 0) where
+  may-name : (rs : List ℕ) → firstRefusal rs ≡ 0 → firstRefusal (fabricGate (key .fabric) ∷ sceneGate (key .scene) ∷ rs) ≡ 0
+  may-name rs e = more _ _ (fabric-let (key .fabric) (n .fabric)) (more _ _ (scene-let (key .scene) (n .scene)) e)
+
+  pub lookup-let : lookupGate key m ≡ 0
   unfolding lookupGate
-  lookup-let = may-name _ (more _ _ (member-let (key .group)) last)
+  lookup-let = may-name _ (more _ _ z last)
 
   -- nothing to add, nothing captured
-  pub add-let : (limit : ℕ) → addGate key 0 Yes [] limit 0 ≡ 0
+  pub add-let : (limit : ℕ) → addGate key 0 m [] limit 0 ≡ 0
   unfolding addGate pairsGate
   add-let limit =
-      may-name _ (more _ _ refl (more _ _ (member-let (key .group)) (more _ _ last (more _ _ (ap (λ (b : Bool). refuseIf b 0x89) (le-ltb limit 0 (omega arith))) last))))
+      may-name _ (more _ _ refl (more _ _ z (more _ _ last (more _ _ (ap (λ (b : Bool). refuseIf b 0x89) (le-ltb limit 0 (omega arith))) last))))
 
-  pub store-let : (limit : ℕ) → 1 ≤ limit → storeGate key Yes limit 0 ≡ 0
+  pub store-let : (limit : ℕ) → 1 ≤ limit → storeGate key m limit 0 ≡ 0
   unfolding storeGate
-  store-let limit h = may-name _ (more _ _ (member-let (key .group)) (more _ _ (ap (λ (b : Bool). refuseIf b 3) (le-ltb limit 1 h)) last))
+  store-let limit h = may-name _ (more _ _ z (more _ _ (ap (λ (b : Bool). refuseIf b 3) (le-ltb limit 1 h)) last))
 
 pub info-let : (f : ℕ) → 1 ≤ f → infoGate f false ≡ 0
 unfolding infoGate

@@ -111,40 +111,45 @@ counts f (x ∷ es) et g g′ same q w =
           omega (arith, nq (q x) refl, counts f es et rest g′ (λ n h. sym (skip n (out n h)) ∙ same n h) q w)
     ]) refl
 
--- ---- a key of the fabric that no entry has: group 0, scene 1, some endpoint below n
+-- ---- one of n tests that no element passes, where there are fewer elements, and none passes two of them
 
-without : (p : SceneEntry → Bool) (xs : List SceneEntry) → count (λ x. not (p x) && true) xs + count p xs ≡ length xs
-without p [] = refl
-without p (x ∷ xs) =
-    elim (p x) as (λ b. bit (not b && true) + count (λ y. not (p y) && true) xs + (bit b + count p xs) ≡ suc (length xs))
-    [ true ↦ omega (arith, without p xs) | false ↦ omega (arith, without p xs) ]
+module _ {A : Type 0} where
+  without : (p : A → Bool) (xs : List A) → count (λ x. not (p x) && true) xs + count p xs ≡ length xs
+  without p [] = refl
+  without p (x ∷ xs) =
+      elim (p x) as (λ b. bit (not b && true) + count (λ y. not (p y) && true) xs + (bit b + count p xs) ≡ suc (length xs))
+      [ true ↦ omega (arith, without p xs) | false ↦ omega (arith, without p xs) ]
 
+  module _ (h : ℕ → A → Bool) (apart : (m e : ℕ) → e < m → (x : A) → h e x ≡ true → h m x ≡ false) where
+    differ : (m e : ℕ) → e < m → (x : A) → h e x ≡ (not (h m x) && h e x)
+    differ m e l x =
+        (elim (h e x) as (λ b. h e x ≡ b → b ≡ (not (h m x) && b)) [
+          | true ↦ λ p. sym (rw (apart m e l x p) refl)
+          | false ↦ λ p. sym (and-false (not (h m x)))
+        ]) refl
+
+    pub fresh : (n : ℕ) (xs : List A) → length xs < n → (e : ℕ) × (e < n) × (count (h e) xs ≡ 0)
+    fresh zero xs l = absurd (omega arith)
+    fresh (suc n) xs l =
+        let hit = h n in
+        let ys = keep (λ x. not (hit x)) xs in
+        (elim (eqb (count hit xs) 0) as (λ b. eqb (count hit xs) 0 ≡ b → (e : ℕ) × (e < suc n) × (count (h e) xs ≡ 0)) [
+          | true ↦ λ z. (n, omega arith, eqb-true (count hit xs) 0 z)
+          | false ↦ λ z.
+              let less : length ys < n = omega (arith, length-count ys, count-keep (λ _. true) (λ x. not (hit x)) xs, without hit xs, eqb-false (count hit xs) 0 z) in
+              let r : (e : ℕ) × (e < n) × (count (h e) ys ≡ 0) = fresh n ys less in (
+                r .0,
+                omega arith,
+                count-ext (h (r .0)) (λ x. not (hit x) && h (r .0) x) (differ n (r .0) (r .1)) xs ∙ sym (count-keep (h (r .0)) (λ x. not (hit x)) xs) ∙ r .2,
+              )
+        ]) refl
+
+-- a key of the fabric that no entry has: group 0, scene 1, some endpoint below n
 abbrev pub probe : ℕ → ℕ → ℕ
 probe f e = wordOf (sceneKey f e 0 1)
 
-differ : (f m e : ℕ) → e < m → (w : ℕ) → eqb w (probe f e) ≡ (not (eqb w (probe f m)) && eqb w (probe f e))
-differ f m e l w =
-    (elim (eqb w (probe f e)) as (λ b. eqb w (probe f e) ≡ b → b ≡ (not (eqb w (probe f m)) && b)) [
-      | true ↦ λ h. let p = eqb-true w (probe f e) h in sym (rw (ne-eqb w (probe f m) (λ q. omega arith)) refl)
-      | false ↦ λ h. sym (and-false (not (eqb w (probe f m))))
-    ]) refl
-
 pub fresh-key : (f n : ℕ) (es : List SceneEntry) → length es < n → (e : ℕ) × (e < n) × (count (keyIs (probe f e)) es ≡ 0)
-fresh-key f zero es h = absurd (omega arith)
-fresh-key f (suc n) es h =
-    let hit = keyIs (probe f n) in
-    let es′ = keep (λ x. not (hit x)) es in
-    (elim (eqb (count hit es) 0) as (λ b. eqb (count hit es) 0 ≡ b → (e : ℕ) × (e < suc n) × (count (keyIs (probe f e)) es ≡ 0)) [
-      | true ↦ λ z. (n, omega arith, eqb-true (count hit es) 0 z)
-      | false ↦ λ z.
-          let less : length es′ < n = omega (arith, length-count es′, count-keep (λ _. true) (λ x. not (hit x)) es, without hit es, eqb-false (count hit es) 0 z) in
-          let r : (e : ℕ) × (e < n) × (count (keyIs (probe f e)) es′ ≡ 0) = fresh-key f n es′ less in
-          let k = keyIs (probe f (r .0)) in (
-            r .0,
-            omega arith,
-            count-ext k (λ x. not (hit x) && k x) (λ x. differ f n (r .0) (r .1) (x .key)) es ∙ sym (count-keep k (λ x. not (hit x)) es) ∙ r .2,
-          )
-    ]) refl
+fresh-key f = fresh (λ e. keyIs (probe f e)) (λ m e l x h. let p = eqb-true (x .key) (probe f e) h in ne-eqb (x .key) (probe f m) (λ q. omega arith))
 
 -- ---- info
 

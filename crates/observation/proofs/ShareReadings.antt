@@ -247,21 +247,21 @@ module _ (g : ℕ) (g1 : 1 ≤ g) (g255 : g ≤ 255) where
       let v = viewOf t in
       let k = fresh-key g 1025 (v .entries) (omega (arith, i .inv .room, i .inv .small)) in
       let e = k .0 in
-      let c = command g e (backward.adding laws g g1 g255) in
+      let c = command g e (backward.adding Yes) in
       let fits : InRange c = (omega arith, omega (arith, k .1), (omega arith, omega arith, omega arith, refl, refl)) in
       let x = entryOf (sceneKey g e 0 1) 0 [] in
       let key = keyIs (probe g e) in
       let lost : find key (v .entries) ≡ none = none-find key (v .entries) (k .2) in
       let new : has key (v .entries) ≡ false = ap found lost in
       let q : placeFor g (probe g e) v ≡ true = ap₂ _||_ new (lt-ltb 0 (placesIn g v) more) in
-      let a : sees c t ≡ (done true, invalidated (Scene (sceneKey g e 0 1)) (written x v)) = rw q at (backward.adds laws g g1 g255 t i e fits) in
+      let a : sees c t ≡ (done true, invalidated (Scene (sceneKey g e 0 1)) (written x v)) = rw q at (backward.adds laws g g1 g255 Yes t i e (fits .1)) in
       let u = next c t in (
         u,
         record {
           reached = after c fits r;
           kind = kind-of t u (ap (λ (o : Seen). o .1 .size) a) (ap (λ (o : Seen). o .1 .modes) a);
           entries = ap (λ (o : Seen). length (o .1 .entries)) a ∙ omega (arith, length-put-has key x (v .entries), ap bit new);
-          own = omega (arith, backward.added laws g g1 g255 t i e fits new (lt-ltb 0 (placesIn g v) more));
+          own = omega (arith, backward.added laws g g1 g255 Yes t i e (fits .1) new (lt-ltb 0 (placesIn g v) more));
           others = λ f n.
               let its : fabricOf (x .key) ≡ g = key-fabric g e 0 1 (omega arith) (fits .1) (omega arith) (omega arith) in
               let out : mine f x ≡ false = ne-eqb (fabricOf (x .key)) f (λ z. n (sym z ∙ its)) in

@@ -18,7 +18,7 @@ use Rattle.observation.proofs.Choices.{or-none, bit-zero}
 use Rattle.observation.proofs.Invariant.{bad, badRecord, fine-entry, fine-record}
 use Rattle.observation.proofs.Reach.{reached-standing}
 use Rattle.observation.proofs.Forward.{alike, sim-of}
-use Rattle.observation.proofs.Backward.{agree}
+use Rattle.observation.proofs.Asked.{agree}
 
 pub demand3 : Demand3
 demand3 f s t f1 f255 rs rt z m =
