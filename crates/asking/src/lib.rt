@@ -5,7 +5,6 @@ mod query;
 mod both;
 
 use groups::GroupsState;
-use state::Outcome;
 use state::ScenesState;
 use words::GroupKey;
 use words::SceneKey;

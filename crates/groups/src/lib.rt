@@ -9,11 +9,8 @@ use words::SceneId;
 use words::SceneKey;
 use words::Status;
 ghost use mathlib.Core.Path.{_≡_};
-ghost use mathlib.Core.Bool.{_&&_};
 ghost use Prim.Native.Nat.{_≤_};
 ghost use lib.ListN.{length};
-ghost use Rattle.words.specs.Below.{everyBelow, anyBelow};
-ghost use Rattle.words.specs.Constants.{maxMemberships};
 ghost use Rattle.groups.specs.Groups.{groupsOf, withHeld, groupWord, groupSound, groupsSound, isMember, memberOf, readGroup, joinedOf, joinGate, joinGroup, retainGroups};
 
 // How many memberships are held.
@@ -165,8 +162,9 @@ impl GroupsState {
         if self.held == Limits::MAX_MEMBERSHIPS {
             return GroupsOutcome { status: Fault::MEMBERSHIPS_FULL, state: self };
         }
-        words[self.held] = word(key);
-        self.held = self.held + 1;
+        let held = self.held;
+        words[held] = word(key);
+        self.held = held + 1;
         GroupsOutcome { status: Status::SUCCESS, state: self }
     }
 
