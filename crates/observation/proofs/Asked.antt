@@ -29,7 +29,7 @@ module _ (laws : Laws) (f : ℕ) (f1 : 1 ≤ f) (f255 : f ≤ 255) where
   hf = omega arith
 
   -- what a view answers, and that equal answers mean equal entries
-  view-answer : (m : Membership) (t : Table) → Standing t → (e g sc : ℕ) → e < 2 ^ 16 → g < 2 ^ 16 → sc < 2 ^ 8 → reserved sc ≡ false → memberGate g m ≡ 0
+  pub view-answer : (m : Membership) (t : Table) → Standing t → (e g sc : ℕ) → e < 2 ^ 16 → g < 2 ^ 16 → sc < 2 ^ 8 → reserved sc ≡ false → memberGate g m ≡ 0
       → answer (command f e (view g sc m)) t ≡ viewed (find (keyIs (wordOf (sceneKey f e g sc))) (viewOf t .entries))
   view-answer m t i e g sc he hg hs plain z =
       ap (λ (o : Seen). o .0)

@@ -30,13 +30,13 @@ use Rattle.observation.proofs.Respond.{Kept}
 use Rattle.observation.proofs.Reach.{lawful, Standing, step-standing}
 
 module _ (laws : Laws) where
-  step-sim : (f e : ℕ) (c : Command) (s t : Table) → f < 2 ^ 8 → e < 2 ^ 16 → CommandInRange c → Standing s → Standing t → Sim f (viewOf s) (viewOf t)
+  pub step-sim : (f e : ℕ) (c : Command) (s t : Table) → f < 2 ^ 8 → e < 2 ^ 16 → CommandInRange c → Standing s → Standing t → Sim f (viewOf s) (viewOf t)
       → Kept f c (sees (command f e c) s) (sees (command f e c) t)
   step-sim f e c s t hf he hc i j a =
       let l = lawful laws f e c hf he hc in
       subst₂ (Kept f c) (sym (l .law s (i .intact))) (sym (l .law t (j .intact))) (l .responds .alike (viewOf s) (viewOf t) (i .inv) (j .inv) a)
 
-  heard : (f e : ℕ) (s t : Table) → e < 2 ^ 16 → Standing s → Standing t → Sim f (viewOf s) (viewOf t) → Sim f (viewOf (next (notice e) s)) (viewOf (next (notice e) t))
+  pub heard : (f e : ℕ) (s t : Table) → e < 2 ^ 16 → Standing s → Standing t → Sim f (viewOf s) (viewOf t) → Sim f (viewOf (next (notice e) s)) (viewOf (next (notice e) t))
   heard f e s t he i j a =
       subst₂ (λ (o o′ : Seen). Sim f (o .1) (o′ .1)) (sym (laws .events s (i .intact) .notice-acts e he)) (sym (laws .events t (j .intact) .notice-acts e he))
       (sim-invalidated f (Endpoint e) (viewOf s) (viewOf t) (endpoint-seen e) a)

@@ -30,16 +30,20 @@ module _ {A : Type 0} where
               (y ∷ r .0, List·Permᴰ·trans (List·Permᴰ·cons refl (r .1)) (List·Permᴰ·swap refl refl))
         ]) refl h
 
-    often-perm : (xs ys : List A) → Often xs ys → List·Permᴰ xs ys
-    often-perm [] [] h = List·Permᴰ·nil
-    often-perm [] (y ∷ ys) h = absurd (omega (arith, h (λ _. true)))
-    often-perm (x ∷ xs) ys h =
-        let r : (zs : List A) × List·Permᴰ ys (x ∷ zs) = split x ys (omega (arith, h (same x), ap bit (self x))) in
-        List·Permᴰ·trans (List·Permᴰ·cons refl (often-perm xs (r .0) (λ p. omega (arith, h p, perm-often (r .1) p)))) (Permᴰ·symm (r .1))
+    -- it is enough that each element is as often
+    each-perm : (xs ys : List A) → ((x : A) → count (same x) xs ≡ count (same x) ys) → List·Permᴰ xs ys
+    each-perm [] [] h = List·Permᴰ·nil
+    each-perm [] (y ∷ ys) h = absurd (omega (arith, h y, ap bit (self y)))
+    each-perm (x ∷ xs) ys h =
+        let r : (zs : List A) × List·Permᴰ ys (x ∷ zs) = split x ys (omega (arith, h x, ap bit (self x))) in
+        List·Permᴰ·trans (List·Permᴰ·cons refl (each-perm xs (r .0) (λ y. omega (arith, h y, perm-often (r .1) (same y))))) (Permᴰ·symm (r .1))
 
--- of scenes, and of scene ids
+-- of scenes, of numbers, and of scene ids
 pub scenes-perm : (xs ys : List SceneEntry) → Often xs ys → List·Permᴰ xs ys
-scenes-perm = often-perm sameEntry same-entry entry-same
+scenes-perm xs ys h = each-perm sameEntry same-entry entry-same xs ys (λ x. h (sameEntry x))
+
+pub numbers-perm : (xs ys : List ℕ) → ((n : ℕ) → count (λ x. eqb x n) xs ≡ count (λ x. eqb x n) ys) → List·Permᴰ xs ys
+numbers-perm = each-perm (λ y x. eqb x y) (λ y x e. eqb-true x y e) (λ y. eq-eqb y y refl)
 
 pub ids-perm : (xs ys : List ℕ) → Often xs ys → List·Permᴰ xs ys
-ids-perm = often-perm (λ y x. eqb x y) (λ y x e. eqb-true x y e) (λ y. eq-eqb y y refl)
+ids-perm xs ys h = numbers-perm xs ys (λ n. h (λ x. eqb x n))

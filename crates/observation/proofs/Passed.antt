@@ -10,10 +10,11 @@ use borrow.Author.Tests.{ne-eqb, le-ltb, eqb-true, eqb-false}
 use Rattle.words.specs.declared.SceneKey.{SceneKey}
 use Rattle.requests.specs.declared.Membership.{Membership}
 use Rattle.requests.specs.declared.Membership.the-variants.{Yes}
-use Rattle.requests.specs.Requests.{orNext, firstRefusal, refuseIf, reserved, fabricGate, sceneGate, memberGate, pairsGate, fieldsGate, addGate, storeGate, lookupGate, infoGate}
+use Rattle.requests.specs.Requests.{orNext, firstRefusal, refuseIf, reserved, fabricGate, sceneGate, memberGate, pairsGate, fieldsGate, addGate, storeGate, lookupGate, groupGate, infoGate}
 use Rattle.requests.proofs.Laws.{next-pass}
 use Rattle.requests.proofs.Passed.{Named, add-passed}
 use Rattle.add_read.specs.Adding.{earlyGates, fieldSetsGate, addReadGate}
+use Rattle.observation.specs.Calls.{groupKey}
 use Rattle.observation.proofs.Choices.{cond-elim}
 
 more : (r : ℕ) (rs : List ℕ) → r ≡ 0 → firstRefusal rs ≡ 0 → firstRefusal (r ∷ rs) ≡ 0
@@ -56,6 +57,10 @@ module _ (key : SceneKey) (n : Named key) (m : Membership) (z : memberGate (key 
   pub store-let : (limit : ℕ) → 1 ≤ limit → storeGate key m limit 0 ≡ 0
   unfolding storeGate
   store-let limit h = may-name _ (more _ _ z (more _ _ (ap (λ (b : Bool). refuseIf b 3) (le-ltb limit 1 h)) last))
+
+pub group-let : (f e g : ℕ) → 1 ≤ f → groupGate (groupKey f e g) Yes ≡ 0
+unfolding groupGate
+group-let f e g h = more _ _ (fabric-let f h) (more _ _ (member-let g) last)
 
 pub info-let : (f : ℕ) → 1 ≤ f → infoGate f false ≡ 0
 unfolding infoGate

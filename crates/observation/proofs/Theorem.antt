@@ -28,7 +28,7 @@ demand3 f s t f1 f255 rs rt z m =
 
 -- ---- reached tables
 
-none-passes : {A : Type 0} (p : A → Bool) (xs : List A) → count p xs ≡ 0 → (x : A) → List·Memᴰ x xs → p x ≡ false
+pub none-passes : {A : Type 0} (p : A → Bool) (xs : List A) → count p xs ≡ 0 → (x : A) → List·Memᴰ x xs → p x ≡ false
 none-passes p (y ∷ ys) z x (List·Memᴰ·head e) = ap p e ∙ bit-zero (p y) (omega arith)
 none-passes p (y ∷ ys) z x (List·Memᴰ·tail m) = none-passes p ys (omega arith) x m
 
