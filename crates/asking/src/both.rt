@@ -11,6 +11,7 @@ use words::GroupKey;
 use words::KeyRange;
 use words::Status;
 ghost use mathlib.Core.Path.{_≡_};
+ghost use mathlib.Core.Bool.{false};
 ghost use Prim.Native.Nat.{_≤_};
 ghost use lib.ListN.{length};
 ghost use Rattle.state.specs.Table.{tableOf};
@@ -85,7 +86,14 @@ impl AskingHandler {
         if gate != Status::SUCCESS {
             return self.refused(gate);
         }
-        let done = Commands { state }.remove_all_scenes(keys, times, fields, records, key, Membership::Yes);
+        let done = Commands { state }.remove_all_scenes(
+            keys,
+            times,
+            fields,
+            records,
+            key,
+            Membership::Yes,
+        );
         AskingHandler::ended(done, self.groups.retain(words, KeyRange::Group(key)))
     }
 

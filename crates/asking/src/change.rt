@@ -61,7 +61,17 @@ impl AskingHandler {
         let state = self.state;
         if self.groups.is_sound(words) {
             let member = self.groups.member(words, group_of_scene(key));
-            return ScenesHandler { state }.add_scene(keys, times, fields, records, key, time, member, pairs, ext);
+            return ScenesHandler { state }.add_scene(
+                keys,
+                times,
+                fields,
+                records,
+                key,
+                time,
+                member,
+                pairs,
+                ext,
+            );
         }
         Outcome::unsaved(Fault::UNSOUND, state)
     }
@@ -88,7 +98,18 @@ impl AskingHandler {
         let state = self.state;
         if self.groups.is_sound(words) {
             let member = self.groups.member(words, group_of_scene(key));
-            return add_read::add_scene_read(state, keys, times, fields, records, key, time, member, pairs, ext);
+            return add_read::add_scene_read(
+                state,
+                keys,
+                times,
+                fields,
+                records,
+                key,
+                time,
+                member,
+                pairs,
+                ext,
+            );
         }
         Outcome::unsaved(Fault::UNSOUND, state)
     }
@@ -113,7 +134,15 @@ impl AskingHandler {
         let state = self.state;
         if self.groups.is_sound(words) {
             let member = self.groups.member(words, group_of_scene(key));
-            return ScenesHandler { state }.store_scene(keys, times, fields, records, key, member, captured);
+            return ScenesHandler { state }.store_scene(
+                keys,
+                times,
+                fields,
+                records,
+                key,
+                member,
+                captured,
+            );
         }
         Stored::refused(Fault::UNSOUND, state)
     }
@@ -161,7 +190,14 @@ impl AskingHandler {
         let state = self.state;
         if self.groups.is_sound(words) {
             let member = self.groups.member(words, key);
-            return ScenesHandler { state }.remove_all_scenes(keys, times, fields, records, key, member);
+            return ScenesHandler { state }.remove_all_scenes(
+                keys,
+                times,
+                fields,
+                records,
+                key,
+                member,
+            );
         }
         Outcome::unsaved(Fault::UNSOUND, state)
     }
@@ -169,9 +205,9 @@ impl AskingHandler {
     // Ends a recall: a scene that the host applied is remembered.
     pub fn recall_scene(
         self,
-        keys: & [u64],
-        times: & [u32],
-        fields: & [u8],
+        keys: &[u64],
+        times: &[u32],
+        fields: &[u8],
         records: &mut [u64],
         words: &[u64],
         key: SceneKey,
@@ -186,7 +222,15 @@ impl AskingHandler {
         let state = self.state;
         if self.groups.is_sound(words) {
             let member = self.groups.member(words, group_of_scene(key));
-            return ScenesHandler { state }.recall_scene(keys, times, fields, records, key, member, applied);
+            return ScenesHandler { state }.recall_scene(
+                keys,
+                times,
+                fields,
+                records,
+                key,
+                member,
+                applied,
+            );
         }
         Outcome::unsaved(Fault::UNSOUND, state)
     }
@@ -211,7 +255,15 @@ impl AskingHandler {
         if self.groups.is_sound(words) {
             let source = self.groups.member(words, source_group(c));
             let target = self.groups.member(words, target_group(c));
-            return ScenesHandler { state }.copy_scene(keys, times, fields, records, c, source, target);
+            return ScenesHandler { state }.copy_scene(
+                keys,
+                times,
+                fields,
+                records,
+                c,
+                source,
+                target,
+            );
         }
         Outcome::unsaved(Fault::UNSOUND, state)
     }

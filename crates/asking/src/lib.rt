@@ -1,8 +1,8 @@
 // The calls that take a command's membership from the memberships that are held, and those that change scenes and memberships together. Each
 // tests the memberships, answers 6 if they are not sound, and makes the outward call of the same name otherwise.
+mod both;
 mod change;
 mod query;
-mod both;
 
 use groups::GroupsState;
 use state::ScenesState;

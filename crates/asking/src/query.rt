@@ -57,7 +57,15 @@ impl AskingHandler {
         let state = self.state;
         if self.groups.is_sound(words) {
             let member = self.groups.member(words, group_of_scene(key));
-            return ScenesHandler { state }.recall_lookup(keys, times, fields, records, key, member, transition);
+            return ScenesHandler { state }.recall_lookup(
+                keys,
+                times,
+                fields,
+                records,
+                key,
+                member,
+                transition,
+            );
         }
         SceneRead::refused(Fault::UNSOUND, state)
     }
@@ -81,7 +89,15 @@ impl AskingHandler {
         let state = self.state;
         if self.groups.is_sound(words) {
             let member = self.groups.member(words, key);
-            return ScenesHandler { state }.get_scene_membership(keys, times, fields, records, key, member, ids);
+            return ScenesHandler { state }.get_scene_membership(
+                keys,
+                times,
+                fields,
+                records,
+                ids,
+                key,
+                member,
+            );
         }
         ListRead::refused(Fault::UNSOUND, state)
     }

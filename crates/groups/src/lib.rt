@@ -42,8 +42,7 @@ pub fn word(key: GroupKey) -> u64
         endpoint: key.endpoint,
         group: key.group,
         scene: SceneId::GLOBAL_SCENE_ID,
-    }
-    .word()
+    }.word()
 }
 
 // Whether a word is in range: below 2^48, with a fabric from 1 to 255 and scene 0.
@@ -154,18 +153,30 @@ impl GroupsState {
     {
         let gate = self.join_gate(words, key);
         if gate != Status::SUCCESS {
-            return GroupsOutcome { status: gate, state: self };
+            return GroupsOutcome {
+                status: gate,
+                state: self,
+            };
         }
         if self.is_member(words, key) {
-            return GroupsOutcome { status: Status::SUCCESS, state: self };
+            return GroupsOutcome {
+                status: Status::SUCCESS,
+                state: self,
+            };
         }
         if self.held == Limits::MAX_MEMBERSHIPS {
-            return GroupsOutcome { status: Fault::MEMBERSHIPS_FULL, state: self };
+            return GroupsOutcome {
+                status: Fault::MEMBERSHIPS_FULL,
+                state: self,
+            };
         }
         let held = self.held;
         words[held] = word(key);
         self.held = held + 1;
-        GroupsOutcome { status: Status::SUCCESS, state: self }
+        GroupsOutcome {
+            status: Status::SUCCESS,
+            state: self,
+        }
     }
 
     // Drops every membership in a range: the others move to the front, in order.

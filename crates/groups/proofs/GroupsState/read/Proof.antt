@@ -29,7 +29,8 @@ returns-3 : tie.Need-returns-3
 returns-3 c =
     let p = c .before in
     let s = p .before .before in
-    read-told _ _ (sym (s .before .is-sound .ensures) ∙ not-false _ (s .if1 .left)) (sym (p .before .fabric-gate .ensures) ∙ p .if2 .left) _ (c .is-member .ensures)
+    let sound = sym (s .before .is-sound .ensures) ∙ not-false _ (s .if1 .left) in
+    read-told _ _ sound (sym (p .before .fabric-gate .ensures) ∙ p .if2 .left) _ (c .is-member .ensures)
 
 pub read-spec : {M : Type 1} → statement M
 read-spec =

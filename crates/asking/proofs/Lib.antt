@@ -1,0 +1,2 @@
+-- `Laws` has what a call answers that asks the memberships.
+pub mod Laws
