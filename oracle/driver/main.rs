@@ -4,6 +4,7 @@ mod compare;
 mod fields;
 mod findings;
 mod generate;
+mod groups;
 mod images;
 mod lists;
 mod random;
@@ -234,6 +235,7 @@ fn main() {
                 "fields" => complete(&reader::compare(&programs, seed, calls, WANTED), calls),
                 "images" => differential(&programs, seed, calls, Kind::Images),
                 "share" => differential(&programs, seed, calls, Kind::Share),
+                "groups" => groups::differential(&programs, seed, calls, WANTED).is_some_and(|missing| complete(&missing, calls)),
                 _ => differential(&programs, seed, calls, Kind::Calls),
             }
         }
@@ -245,7 +247,7 @@ fn main() {
             Ok(()) => true,
             Err(what) => fail(&what),
         },
-        _ => fail("usage: driver compare ORACLE OURS SEED CALLS [images | share | fields], driver orders ORACLE SEED IMAGES, or driver record ORACLE SEED STDIN STDOUT"),
+        _ => fail("usage: driver compare ORACLE OURS SEED CALLS [images | share | fields | groups], driver orders ORACLE SEED IMAGES, or driver record ORACLE SEED STDIN STDOUT"),
     };
     exit(if done { 0 } else { 1 })
 }

@@ -1,7 +1,7 @@
 -- The calls that take a command's membership from the memberships that are held, and those that change both: document 02, Q-7. Each is defined by
 -- the call of its name that is told the membership: there is no second order of tests.
 use Prim.Native.Nat.{ℕ}
-use mathlib.Core.Bool.{Bool, cond, not}
+use mathlib.Core.Bool.{cond, not}
 use mathlib.Core.List.{List, [], _∷_}
 use lib.Dec.{eqb}
 use Rattle.words.specs.Constants.{success, notFound, unsound}

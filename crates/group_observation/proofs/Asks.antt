@@ -1,10 +1,8 @@
 -- A node's calls by those of its scenes: a command that asks is the command that is told what is held; each call leaves scenes that a call of the scenes
 -- leaves, and memberships that a join or a drop leaves. Assumes nothing.
-use Prim.Native.Nat.{ℕ, _^_, _<_}
-use native.Mathlib.Omega.{arith}
+use Prim.Native.Nat.{ℕ}
 use mathlib.Core.Path.{_≡_, refl, sym, ap, _∙_, subst}
 use mathlib.Core.Bool.{Bool, true, false, cond, false≢true}
-use mathlib.Core.List.{List, [], _∷_}
 use lib.Dec.{eqb}
 use borrow.Author.Tests.{eqb-true, eqb-false, eq-eqb, ne-eqb}
 use Rattle.words.specs.Constants.{success, unsound}
@@ -16,18 +14,18 @@ use Rattle.state.specs.Sound.{sound}
 use Rattle.state.specs.Answer.{Result, resultOf, refused, refusalOf, guarded}
 use Rattle.commands.specs.Commands.{removeAllScenes, recallScene}
 use Rattle.commands.specs.Counted.{Counted, counted, storeCounted}
-use Rattle.lifecycle.specs.Lifecycle.{removeForFabric, factoryReset, failSafe}
+use Rattle.lifecycle.specs.Lifecycle.{failSafe}
 use Rattle.reads.specs.declared.SceneRead.{SceneRead}
 use Rattle.reads.specs.Reads.{unread, recallLookup, Listed}
-use Rattle.groups.specs.Groups.{Groups, groupsSound, memberOf, joinGroup, retainGroups, noGroups}
-use Rattle.asking.specs.Asking.{asking, Both, bothOf, bothRefused, following, addAsking, addReadAsking, storeAsking, removeAsking, removeAllAsking, recallAsking, lookupAsking, viewAsking, copyAsking, membershipAsking, leaveGate, leaveGroup, removeForFabricBoth, factoryResetBoth}
+use Rattle.groups.specs.Groups.{Groups, groupsSound, memberOf, retainGroups}
+use Rattle.asking.proofs.Laws as laws
+use Rattle.asking.specs.Asking.{asking, Both, bothOf, bothRefused, addAsking, addReadAsking, storeAsking, removeAsking, removeAllAsking, recallAsking, lookupAsking, viewAsking, copyAsking, membershipAsking, leaveGate, leaveGroup, removeForFabricBoth, factoryResetBoth}
 use Rattle.observation.specs.Calls as calls
 use Rattle.observation.specs.Calls.{withState, ofResult, ofView, ofRecall, ofList, sceneKey, groupKey}
-use Rattle.group_observation.specs.Nodes.{Node, Command, add, addRead, view, remove, removeAll, store, recall, copy, membership, info, join, leave, Call, command, removal, reset, onScenes, Out, kept, ofBoth, does, step, next, CommandInRange, InRange}
+use Rattle.group_observation.specs.Nodes.{Node, Command, add, addRead, view, remove, removeAll, store, recall, copy, membership, info, join, leave, Call, command, removal, reset, onScenes, Out, kept, does, step, next, CommandInRange, InRange}
 
 pub asking-sound : {A : Type 0} (g : Groups) → groupsSound g ≡ true → (refuse : ℕ → A) (o : A) → asking g refuse o ≡ o
-unfolding asking
-asking-sound g sd refuse o = rw sd
+asking-sound g sd refuse o = sym (laws.asks g refuse o sd)
 
 -- ---- commands that ask
 

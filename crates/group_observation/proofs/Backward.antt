@@ -5,11 +5,10 @@ use native.Mathlib.Omega.{arith}
 use mathlib.Core.Path.{_≡_, refl, sym, ap, _∙_, subst, subst₂}
 use mathlib.Core.Bool.{Bool, true, false, cond, not, _&&_, _||_, false≢true}
 use mathlib.Core.List.{List, [], _∷_, List·Permᴰ}
-use mathlib.Core.Logic.{_⊎_, inl, inr, ⊎-elim}
+use mathlib.Core.Logic.{_⊎_, ⊎-elim}
 use mathlib.Core.Option.{Option, none, some}
 use lib.Dec.{eqb, ltb}
-use lib.ListN.{length}
-use borrow.Author.Tests.{eqb-true, eqb-false, eq-eqb, ne-eqb, lt-ltb, le-ltb, ltb-true, ltb-false}
+use borrow.Author.Tests.{eqb-true, eqb-false, ne-eqb, lt-ltb, le-ltb, ltb-false}
 use Rattle.words.specs.Constants.{success, invalidCommand, insufficientSpace, membershipsFull, maxMemberships}
 use Rattle.words.specs.Words.{wordOf, fabricOf, endpointOf, groupOf, sceneOf}
 use Rattle.words.specs.declared.GroupKey.{GroupKey}
@@ -19,32 +18,30 @@ use Rattle.requests.specs.declared.Membership.{Membership}
 use Rattle.requests.specs.declared.Membership.the-variants.{Yes, No}
 use Rattle.requests.specs.Requests.{orNext, firstRefusal, reserved, memberGate, lookupGate}
 use Rattle.state.specs.Table.{Table}
-use Rattle.groups.specs.Groups.{Groups, groupWord, groupSound, groupsSound, wordsIn, isMember, memberOf, Joined, joinGate, withMember, joinGroup}
+use Rattle.groups.specs.Groups.{Groups, groupWord, groupSound, wordsIn, isMember, memberOf, Joined, joinGate, withMember}
 use Rattle.groups.proofs.Laws.{groups-few}
-use Rattle.observation.specs.Lists.{bit, count, find, keep}
+use Rattle.observation.specs.Lists.{count, find}
 use Rattle.observation.specs.Calls as calls
 use Rattle.observation.specs.Calls.{Answer, sceneKey, groupKey}
-use Rattle.observation.specs.Equivalence as scenes
 use Rattle.observation.specs.Equivalence.{Same, keyIs}
 use Rattle.observation.proofs.Lists.{found, has}
-use Rattle.observation.proofs.Lookups.{holds}
 use Rattle.observation.proofs.Changes.{viewOf}
-use Rattle.observation.proofs.Effects.{Seen, sees, refuse, viewed}
-use Rattle.observation.proofs.Counts.{both, count-keep, count-ext, count-le, find-none, none-find, find-counts, find-passes}
-use Rattle.observation.proofs.Choices.{bit-zero, count-none, count-has, has-count, lost}
-use Rattle.observation.proofs.Bits.{key-fabric, key-scene, rebuilt}
+use Rattle.observation.proofs.Effects.{Seen, viewed}
+use Rattle.observation.proofs.Counts.{both, count-keep, count-ext, count-le, find-none, none-find}
+use Rattle.observation.proofs.Choices.{count-none, count-has, lost}
+use Rattle.observation.proofs.Bits.{rebuilt}
 use Rattle.observation.proofs.Calls.{laws}
 use Rattle.observation.proofs.Invariant.{badKey}
 use Rattle.observation.proofs.Order.{numbers-perm}
-use Rattle.observation.proofs.Passed.{member-let, free-let, lookup-let}
+use Rattle.observation.proofs.Passed.{member-let, free-let}
 use Rattle.observation.proofs.Probes.{no-bad, parts, fresh}
 use Rattle.observation.proofs.Reach as reach
 use Rattle.observation.proofs.Asked.{viewed-alike, view-answer}
 use Rattle.observation.proofs.Backward as backward
-use Rattle.group_observation.specs.Nodes.{Node, Command, add, view, store, info, join, Call, command, onScenes, Out, does, step, answer, next, InRange}
+use Rattle.group_observation.specs.Nodes.{Node, Command, add, view, store, info, join, command, onScenes, Out, does, step, answer, next, InRange}
 use Rattle.group_observation.specs.Equivalence.{own, noticed, wholeCopy, Equivalent, membershipsOf, freeMemberships, Agree}
 use Rattle.group_observation.proofs.Words.{isWord, badWord, words-length, member-has, words-sound}
-use Rattle.group_observation.proofs.Asks.{asks, tells, tells-range, told}
+use Rattle.group_observation.proofs.Asks.{asks, tells, told}
 use Rattle.group_observation.proofs.Reach.{Joining, turned, again, full, new, joining, Standing, step-standing}
 use Rattle.group_observation.proofs.Enrolled.{groupIn, orphan, Cared, step-cared}
 
@@ -246,11 +243,11 @@ module _ (f : ℕ) (f1 : 1 ≤ f) (f255 : f ≤ 255) where
   gate-open n s e = rw (s .fair .intact, ne-eqb f 0 (λ z. omega arith)) refl
 
   -- 12 where all are taken; else one more is held, and the scenes stay
-  record Takes (n : Node) (e : ℕ) : Type 0 where
-    status : answer (command f e (join 1)) n .status ≡ cond (ltb (n .groups .state .held) maxMemberships) success membershipsFull
-    held : ltb (n .groups .state .held) maxMemberships ≡ true → next (command f e (join 1)) n .groups .state .held ≡ n .groups .state .held + 1
+  pub record Takes (n : Node) (e : ℕ) : Type 0 where
+    pub status : answer (command f e (join 1)) n .status ≡ cond (ltb (n .groups .state .held) maxMemberships) success membershipsFull
+    pub held : ltb (n .groups .state .held) maxMemberships ≡ true → next (command f e (join 1)) n .groups .state .held ≡ n .groups .state .held + 1
 
-  takes : (n : Node) → Standing n → (e : ℕ) → isMember (groupKey f e 1) (n .groups) ≡ false → Takes n e
+  pub takes : (n : Node) → Standing n → (e : ℕ) → isMember (groupKey f e 1) (n .groups) ≡ false → Takes n e
   unfolding step does withMember
   takes n s e m = go (joining (groupKey f e 1) (n .groups) (s .fair .intact))
     where

@@ -2,11 +2,10 @@
 use Prim.Native.Nat.{ℕ, _+_, _*_, _/_, _^_, _≤_, _<_}
 use native.Mathlib.Omega.{arith}
 use mathlib.Core.Path.{_≡_, refl, sym, ap, _∙_, subst}
-use mathlib.Core.Bool.{Bool, true, false, cond, not, _&&_, _||_, false≢true}
+use mathlib.Core.Bool.{Bool, true, false, cond, not, _&&_, false≢true}
 use mathlib.Core.List.{List, [], _∷_, map}
 use mathlib.Core.Logic.{_⊎_, inl, inr}
 use lib.Dec.{eqb}
-use lib.ListN.{length}
 use borrow.Author.Tests.{eqb-true, eqb-false, eq-eqb, ne-eqb}
 use Rattle.words.specs.Constants.{success, noFabric, maxMemberships}
 use Rattle.words.specs.Words.{fabricOf, endpointOf, groupOf, within, fabricKeys, groupKeys}
@@ -16,26 +15,23 @@ use Rattle.words.specs.declared.KeyRange.{KeyRange}
 use Rattle.words.proofs.Ranges.{fabric-keys, group-keys}
 use Rattle.words.proofs.Tests.{and-intro, and-true, and-false, not-false}
 use Rattle.slots.specs.Slots.{SceneEntry, entryAt}
-use Rattle.records.specs.declared.Scope.the-variants.{Group, Endpoint}
-use Rattle.requests.specs.declared.Membership.{Membership}
 use Rattle.requests.specs.declared.Membership.the-variants.{Yes, No}
-use Rattle.requests.specs.Requests.{fabricGate, sceneGate, timeGate, memberGate, copiedGate, answered, addGate, storeGate, lookupGate, groupGate, copyGate}
+use Rattle.requests.specs.Requests.{fabricGate, memberGate, answered, addGate, storeGate, lookupGate, groupGate, copyGate}
 use Rattle.add_read.specs.Adding.{addReadGate}
 use Rattle.state.specs.Table.{Table, entriesIn}
 use Rattle.lifecycle.specs.Lifecycle.{removeForFabric, factoryReset}
 use Rattle.groups.specs.Groups.{Groups, groupWord, groupsSound, ungroupedGate, wordsIn, isMember, memberOf, Joined, joinGroup, withMember, retainGroups, noGroups}
 use Rattle.asking.specs.Asking.{Both, bothRefused, following, heldGate, leaveGate, removeForFabricBoth, factoryResetBoth}
-use Rattle.observation.specs.Lists.{bit, count, find, keep}
+use Rattle.observation.specs.Lists.{bit, count, find}
 use Rattle.observation.specs.Calls as calls
 use Rattle.observation.specs.Calls.{groupKey}
 use Rattle.observation.specs.Equivalence.{mine}
 use Rattle.observation.proofs.Lists.{has}
 use Rattle.observation.proofs.Lookups.{holds}
 use Rattle.observation.proofs.Changes.{View, viewOf, invalidated}
-use Rattle.observation.proofs.Effects.{Seen, sees, gateOf}
+use Rattle.observation.proofs.Effects.{Seen, gateOf}
 use Rattle.observation.proofs.Counts.{both, count-append, count-ext, count-keep, find-none}
 use Rattle.observation.proofs.Choices.{cond-elim, bit-zero, lost, count-none, count-less, count-keep-le, has-same, has-count, count-has}
-use Rattle.observation.proofs.Losses as losses
 use Rattle.observation.proofs.Calls.{laws}
 use Rattle.observation.proofs.Brought.{groupNamed, None, none-brought}
 use Rattle.observation.proofs.Bits.{rebuilt}
@@ -43,9 +39,8 @@ use Rattle.observation.proofs.Passed.{free-let, member-let, group-let}
 use Rattle.observation.proofs.Reach as reach
 use Rattle.observation.proofs.Theorem.{none-passes}
 use Rattle.group_observation.specs.Nodes.{Node, Command, add, addRead, view, remove, removeAll, store, recall, copy, membership, info, join, leave, Call, command, removal, reset, onScenes, Out, does, step, next, CommandInRange, InRange}
-use Rattle.group_observation.specs.Nodes as nodes
-use Rattle.group_observation.specs.Equivalence.{Reached, begun, after, OnlyAsks, Enrolled, ReachedEnrolled}
-use Rattle.group_observation.proofs.Gates.{first-pass, if-pass, fabric-pass}
+use Rattle.group_observation.specs.Equivalence.{Reached, begun, after, NoneSince, fills, ReachedEnrolled}
+use Rattle.requests.proofs.Passed.{first-pass, if-pass, fabric-pass}
 use Rattle.group_observation.proofs.Words.{isWord, member-has, word-in-range, joined-words, joined-sound, kept-words, kept-sound}
 use Rattle.group_observation.proofs.Asks.{asking-sound, asks, tells, tells-range, told, left, stays}
 use Rattle.group_observation.proofs.Reach.{Joining, turned, again, full, new, joining, joins, Standing, reached-standing}
@@ -64,7 +59,7 @@ Cared g t = None (orphan g) (viewOf t)
 
 -- ---- past the gate the group is 0 or held
 
-group-passed : (f e : ℕ) (g : Groups) (c : Command) → gateOf f e (tells g f e c) ≡ 0 → asks c ≡ true
+pub group-passed : (f e : ℕ) (g : Groups) (c : Command) → gateOf f e (tells g f e c) ≡ 0 → asks c ≡ true
     → memberGate (groupNamed (tells g f e c)) (memberOf (groupKey f e (groupNamed (tells g f e c))) g) ≡ 0
 unfolding addGate addReadGate storeGate lookupGate groupGate copyGate
 group-passed f e gs (add g s time pairs ext) z q = first-pass _ _ (first-pass _ _ (first-pass _ _ (first-pass _ _ z .1) .1) .1) .0
@@ -80,7 +75,7 @@ group-passed f e gs (info single) z q = free-let (memberOf (groupKey f e 0) gs)
 group-passed f e gs (join g) z q = absurd (false≢true q)
 group-passed f e gs (leave g) z q = absurd (false≢true q)
 
-passed-member : (n : ℕ) (k : GroupKey) (g : Groups) → memberGate n (memberOf k g) ≡ 0 → (n ≡ 0 → ⊥) → isMember k g ≡ true
+pub passed-member : (n : ℕ) (k : GroupKey) (g : Groups) → memberGate n (memberOf k g) ≡ 0 → (n ≡ 0 → ⊥) → isMember k g ≡ true
 unfolding memberGate memberOf
 passed-member n k g z h =
     let z′ : answered (cond (isMember k g) Yes No) ≡ 0 = sym (ap (λ (b : Bool). cond b 0 (answered (cond (isMember k g) Yes No))) (ne-eqb n 0 h)) ∙ z in
@@ -157,7 +152,7 @@ module _ (g : Groups) (t : Table) (st : reach.Standing t) (z : Cared g t) where
       → Cared g (calls.next c t)
   less c v e h = subst (None (orphan g)) (sym e) (record { gone = omega (arith, h (orphan g), z .gone) })
 
-  scenes-cared : (c : calls.Call) → calls.InRange c → nodes.told (onScenes c) ≡ false → Cared g (calls.next c t)
+  scenes-cared : (c : calls.Call) → calls.InRange c → fills (onScenes c) ≡ false → Cared g (calls.next c t)
   unfolding invalidated
   scenes-cared (calls.command f e c) w q = absurd (false≢true (sym q))
   scenes-cared (calls.notice e) w q =
@@ -241,15 +236,17 @@ module _ (n : Node) (st : Standing n) (z : Cared (n .groups) (n .scenes)) where
       go (full p m h e′) = subst (λ (j : Joined). Cared (j .groups) (n .scenes)) (sym e′) z
       go (new p m h e′) =
           let sd′ = joined-sound key gs sd h (word-in-range key (joins key gs p .fabric) (w .0) (w .1) (w .2)) in
-          subst (λ (j : Joined). Cared (j .groups) (n .scenes)) (sym e′) (record { gone =
-          count-less (orphan gs) (orphan (withMember key gs)) (λ x o.
-          (elim (isMember (groupIn (x .key)) gs) as (λ b. isMember (groupIn (x .key)) gs ≡ b → orphan (withMember key gs) x ≡ false) [
-            | true ↦ λ y.
-                ap (λ (b : Bool). not (eqb (groupOf (x .key)) 0) && not b) (more-held (groupIn (x .key)) gs sd key h sd′ y) ∙ and-false (not (eqb (groupOf (x .key)) 0))
-            | false ↦ λ y.
-                ap (λ (b : Bool). b && not (isMember (groupIn (x .key)) (withMember key gs)))
-                (sym (and-true (not (eqb (groupOf (x .key)) 0))) ∙ sym (ap (λ (b : Bool). not (eqb (groupOf (x .key)) 0) && not b) y) ∙ o)
-          ]) refl) (viewOf (n .scenes) .entries) (z .gone) })
+          subst (λ (j : Joined). Cared (j .groups) (n .scenes)) (sym e′) (record {
+            gone =
+                count-less (orphan gs) (orphan (withMember key gs)) (λ x o.
+                (elim (isMember (groupIn (x .key)) gs) as (λ b. isMember (groupIn (x .key)) gs ≡ b → orphan (withMember key gs) x ≡ false) [
+                  | true ↦ λ y.
+                      ap (λ (b : Bool). not (eqb (groupOf (x .key)) 0) && not b) (more-held (groupIn (x .key)) gs sd key h sd′ y) ∙ and-false (not (eqb (groupOf (x .key)) 0))
+                  | false ↦ λ y.
+                      ap (λ (b : Bool). b && not (isMember (groupIn (x .key)) (withMember key gs)))
+                      (sym (and-true (not (eqb (groupOf (x .key)) 0))) ∙ sym (ap (λ (b : Bool). not (eqb (groupOf (x .key)) 0) && not b) y) ∙ o)
+                ]) refl) (viewOf (n .scenes) .entries) (z .gone);
+          })
 
   -- what a remove all leaves of its group
   none-left : (f e g : ℕ) → f < 2 ^ 8 → e < 2 ^ 16 → g < 2 ^ 16 → 1 ≤ f
@@ -279,9 +276,11 @@ module _ (n : Node) (st : Standing n) (z : Cared (n .groups) (n .scenes)) where
             let one : Cared gs t′ =
             none-brought (orphan gs) f e (w .0) (w .1) (n .scenes) (st .scenes .intact) z (calls.removeAll g Yes) (w .2) (λ _ x h.
             in-held f e g gs x (w .1) (w .2) (held-passed g key gs (l .member)) h) in
-            subst (λ (b : Both). Cared (b .groups) (b .result .table)) (sym (left key gs sd (n .scenes) (st .scenes .intact) p)) (record { gone =
-            two-less (orphan (retainGroups r gs)) (orphan gs) (holds r) (λ x a b. kept-orphan r gs sd x (same-group f e g (x .key) ∙ b) a) (viewOf t′ .entries)
-            (one .gone) (none-left f e g (w .0) (w .1) (w .2) (l .fabric)) })
+            subst (λ (b : Both). Cared (b .groups) (b .result .table)) (sym (left key gs sd (n .scenes) (st .scenes .intact) p)) (record {
+              gone =
+                  two-less (orphan (retainGroups r gs)) (orphan gs) (holds r) (λ x a b. kept-orphan r gs sd x (same-group f e g (x .key) ∙ b) a) (viewOf t′ .entries)
+                  (one .gone) (none-left f e g (w .0) (w .1) (w .2) (l .fabric));
+            })
       ]) refl
 
   -- no scene of a removed fabric is left
@@ -301,10 +300,12 @@ module _ (n : Node) (st : Standing n) (z : Cared (n .groups) (n .scenes)) where
       subst (λ (b : Both). Cared (b .groups) (b .result .table))
       (sym (asking-sound gs sd (bothRefused gs (n .scenes)) (following (removeForFabric f (n .scenes)) (retainGroups (fabricKeys f) gs) gs)))
       (cond-elim (λ (h : Groups). Cared h t′) went
-      (λ y. record { gone =
-      two-less (orphan (retainGroups (fabricKeys f) gs)) (orphan gs) (mine f)
-      (λ x a b. kept-orphan (fabricKeys f) gs sd x (same-fabric f (x .key) ∙ fabric-keys f (x .key) ∙ b) a) (viewOf t′ .entries) (one .gone)
-      (none-mine f w (λ e. some-fabric f e y)) })
+      (λ y. record {
+        gone =
+            two-less (orphan (retainGroups (fabricKeys f) gs)) (orphan gs) (mine f)
+            (λ x a b. kept-orphan (fabricKeys f) gs sd x (same-fabric f (x .key) ∙ fabric-keys f (x .key) ∙ b) a) (viewOf t′ .entries) (one .gone)
+            (none-mine f w (λ e. some-fabric f e y));
+      })
       (λ _. one))
     where
       -- fabric 0 is refused
@@ -324,7 +325,7 @@ module _ (n : Node) (st : Standing n) (z : Cared (n .groups) (n .scenes)) where
       (sym (asking-sound gs sd (bothRefused gs (n .scenes)) (following (factoryReset (n .scenes)) (noGroups gs) gs)))
       (any (cond (eqb (factoryReset (n .scenes) .status) success) (noGroups gs) gs))
 
-  pub step-cared : (c : Call) → InRange c → nodes.told c ≡ false → Cared (next c n .groups) (next c n .scenes)
+  pub step-cared : (c : Call) → InRange c → fills c ≡ false → Cared (next c n .groups) (next c n .scenes)
   unfolding step does
   step-cared (command f e (add g k time pairs ext)) w q = asked-cared f e (add g k time pairs ext) w refl
   step-cared (command f e (addRead g k time pairs ext)) w q = asked-cared f e (addRead g k time pairs ext) w refl
@@ -344,7 +345,7 @@ module _ (n : Node) (st : Standing n) (z : Cared (n .groups) (n .scenes)) where
 
 -- ---- reached nodes
 
-pub reached-cared : {n : Node} (r : Reached n) → OnlyAsks r → Cared (n .groups) (n .scenes)
+pub reached-cared : {n : Node} (r : Reached n) → NoneSince fills r → Cared (n .groups) (n .scenes)
 unfolding viewOf entriesIn positions
 reached-cared (begun n s e r g h) a =
     let none : viewOf (n .scenes) .entries ≡ [] = ap (λ (m : ℕ). map (entryAt (n .scenes .slots)) (positions m)) e in

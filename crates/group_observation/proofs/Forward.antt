@@ -1,5 +1,5 @@
 -- From the matters to equivalence: two nodes that agree answer every list alike. Assumes nothing.
-use Prim.Native.Nat.{ℕ, _+_, _^_, _<_, _≤_}
+use Prim.Native.Nat.{ℕ, _+_, _^_, _<_}
 use native.Mathlib.Omega.{arith}
 use mathlib.Core.Path.{_≡_, refl, sym, ap, _∙_, subst, subst₂}
 use mathlib.Core.Bool.{Bool, true, false, cond, not, _&&_, _||_, false≢true}
@@ -15,12 +15,10 @@ use Rattle.words.proofs.Tests.{and-left, and-right, and-false}
 use Rattle.requests.specs.declared.Membership.{Membership}
 use Rattle.requests.specs.declared.Membership.the-variants.{Yes, No}
 use Rattle.requests.specs.Requests.{refuseIf, firstRefusal, fabricGate}
-use Rattle.state.specs.Capacity.{shareMode}
 use Rattle.groups.specs.Groups.{Groups, groupWord, groupsSound, ungroupedGate, wordsIn, isMember, memberOf, Joined, joinGate, joinNew, withMember, joinGroup, retainGroups}
 use Rattle.groups.proofs.Laws.{groups-few}
-use Rattle.asking.specs.Asking.{Both, bothOf, bothRefused, leaveGate, leaveGroup}
-use Rattle.commands.specs.Commands.{removeAllScenes}
-use Rattle.observation.specs.Lists.{bit, count, keep}
+use Rattle.asking.specs.Asking.{Both, leaveGate, leaveGroup}
+use Rattle.observation.specs.Lists.{count, keep}
 use Rattle.observation.specs.Calls as calls
 use Rattle.observation.specs.Calls.{groupKey}
 use Rattle.observation.specs.Equivalence as scenes
@@ -34,8 +32,8 @@ use Rattle.observation.proofs.Simulation.{Sim}
 use Rattle.observation.proofs.Order.{perm-often}
 use Rattle.observation.proofs.Respond.{same-of}
 use Rattle.observation.proofs.Forward as forward
-use Rattle.group_observation.specs.Nodes.{Node, Command, add, addRead, view, remove, removeAll, store, recall, copy, membership, info, join, leave, command, onScenes, Out, ofJoined, ofBoth, kept, does, step, answer, next, CommandInRange, InRange}
-use Rattle.group_observation.specs.Equivalence.{Event, own, noticed, wholeCopy, Alike, AllInRange, membershipsOf, freeMemberships, Agree}
+use Rattle.group_observation.specs.Nodes.{Node, Command, add, addRead, view, remove, removeAll, store, recall, copy, membership, info, join, leave, command, onScenes, Out, ofBoth, kept, does, step, answer, next, CommandInRange, InRange}
+use Rattle.group_observation.specs.Equivalence.{Event, own, noticed, wholeCopy, Alike, AllInRange, Agree}
 use Rattle.group_observation.proofs.Words.{isWord, words-length, member-has, joined-words, kept-words, kept-sound}
 use Rattle.group_observation.proofs.Asks.{asks, tells, tells-range, told, left, stays}
 use Rattle.group_observation.proofs.Reach.{Standing, step-standing}
@@ -74,7 +72,7 @@ module _ (f : ℕ) (g h : Groups) (sg : groupsSound g ≡ true) (sh : groupsSoun
   tells-same e (join n) he w = refl
   tells-same e (leave n) he w = refl
 
--- ---- joins and drops
+  -- ---- joins and drops
 
   join-gates : (k : GroupKey) → joinGate k g ≡ joinGate k h
   unfolding joinGate

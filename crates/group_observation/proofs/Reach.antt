@@ -3,22 +3,18 @@
 use Prim.Native.Nat.{ℕ, _+_, _^_, _≤_, _<_}
 use native.Mathlib.Omega.{arith}
 use mathlib.Core.Path.{_≡_, refl, sym, ap, _∙_, subst}
-use mathlib.Core.Bool.{Bool, true, false, not, _&&_, false≢true}
-use mathlib.Core.List.{List, [], _∷_, _++_}
+use mathlib.Core.Bool.{Bool, true, false, not, _&&_}
+use mathlib.Core.List.{[], _∷_}
 use lib.Dec.{eqb, ltb}
 use lib.ListN.{take}
-use borrow.Author.Tests.{eqb-true, eqb-false, eq-eqb, ne-eqb, lt-ltb, ltb-true, ltb-false}
+use borrow.Author.Tests.{eqb-true, eqb-false, ne-eqb, ltb-true, ltb-false}
 use Rattle.words.specs.Constants.{success, membershipsFull, maxMemberships}
-use Rattle.words.specs.Words.{groupOf, within, fabricKeys, groupKeys}
+use Rattle.words.specs.Words.{groupOf, within, fabricKeys}
 use Rattle.words.specs.declared.GroupKey.{GroupKey}
 use Rattle.words.specs.declared.KeyRange.{KeyRange}
-use Rattle.words.proofs.Tests.{and-right}
-use Rattle.state.specs.Table.{Table}
-use Rattle.state.specs.Sound.{sound}
-use Rattle.state.specs.Capacity.{shareMode}
 use Rattle.requests.specs.Requests.{fabricGate}
 use Rattle.lifecycle.specs.Lifecycle.{removeForFabric, factoryReset}
-use Rattle.groups.specs.Groups.{Groups, groupWord, groupSound, groupsSound, groupsGate, ungroupedGate, wordsIn, isMember, Joined, joinedOf, joinGate, withMember, joinGroup, retainGroups, noGroups}
+use Rattle.groups.specs.Groups.{Groups, groupWord, groupsSound, groupsGate, ungroupedGate, wordsIn, isMember, Joined, joinedOf, joinGate, withMember, joinGroup, retainGroups, noGroups}
 use Rattle.groups.proofs.Laws.{groups-few, join-refused, join-held, join-full, join-new}
 use Rattle.asking.specs.Asking.{Both, bothRefused, following, leaveGate, removeForFabricBoth, factoryResetBoth}
 use Rattle.observation.specs.Lists.{bit, count, find}
@@ -32,8 +28,8 @@ use Rattle.observation.proofs.Reach as reach
 use Rattle.observation.proofs.Theorem.{demand3}
 use Rattle.group_observation.specs.Nodes.{Node, Command, add, addRead, view, remove, removeAll, store, recall, copy, membership, info, join, leave, Call, command, removal, reset, onScenes, Out, does, step, next, InRange}
 use Rattle.group_observation.specs.Equivalence.{Reached, begun, after, WithInputs}
-use Rattle.group_observation.proofs.Gates.{first-pass, if-pass, fabric-pass}
-use Rattle.group_observation.proofs.Words.{isWord, words-length, member-has, word-in-range, joined-words, joined-sound, kept-words, kept-sound, none-words, none-sound}
+use Rattle.requests.proofs.Passed.{first-pass, if-pass, fabric-pass}
+use Rattle.group_observation.proofs.Words.{isWord, member-has, word-in-range, joined-words, joined-sound, kept-words, kept-sound, none-words, none-sound}
 use Rattle.group_observation.proofs.Asks.{asking-sound, asks, told, left, stays, moved}
 
 -- ---- what a join does

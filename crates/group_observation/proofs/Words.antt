@@ -3,14 +3,14 @@ use Prim.Native.Nat.{ℕ, _+_, _^_, _≤_, _<_}
 use native.Mathlib.Omega.{arith}
 use native.Mathlib.Numerals.{add-one}
 use mathlib.Core.Path.{_≡_, refl, sym, ap, _∙_}
-use mathlib.Core.Bool.{Bool, true, false, not, _&&_}
-use mathlib.Core.List.{List, [], _∷_, _++_, map}
+use mathlib.Core.Bool.{Bool, true, not, _&&_}
+use mathlib.Core.List.{[], _∷_, _++_, map}
 use lib.Dec.{eqb, leb}
 use lib.ListN.{length, take, getD, set, length-set}
 use lib.Seq.{length-take-le, getD-take, take-suc-set}
 use borrow.Author.Tests.{le-leb, eq-eqb}
 use Rattle.words.specs.Constants.{maxMemberships}
-use Rattle.words.specs.Words.{fabricOf, sceneOf, within}
+use Rattle.words.specs.Words.{sceneOf, within}
 use Rattle.words.specs.Below.{positions, everyBelow}
 use Rattle.words.specs.declared.GroupKey.{GroupKey}
 use Rattle.words.specs.declared.KeyRange.{KeyRange}
@@ -23,7 +23,7 @@ use Rattle.groups.specs.Groups.{Groups, groupWord, groupSound, groupsSound, wor
 use Rattle.groups.proofs.Laws.{groups-few, groups-room, groups-fit}
 use Rattle.observation.specs.Lists.{bit, count, keep}
 use Rattle.observation.proofs.Lists.{has}
-use Rattle.observation.proofs.Counts.{both, count-append, count-keep, count-le, has-map, keep-map}
+use Rattle.observation.proofs.Counts.{count-append, count-keep, count-le, has-map, keep-map}
 use Rattle.observation.proofs.Firsts.{count-nowhere, nowhere-count}
 use Rattle.observation.proofs.Positions.{has-positions, keep-positions, view-list}
 use Rattle.observation.proofs.Sound.{word-sound}

@@ -20,7 +20,7 @@ use Rattle.observation.specs.Calls.{Answer, groupKey}
 use Rattle.observation.specs.Equivalence as scenes
 use Rattle.observation.specs.Equivalence.{Same, unless}
 use Rattle.observation.specs.Calls as calls
-use Rattle.group_observation.specs.Nodes.{Node, Command, add, addRead, view, remove, removeAll, store, recall, copy, membership, info, join, leave, Call, command, onScenes, answer, next, InRange, told}
+use Rattle.group_observation.specs.Nodes.{Node, Command, add, addRead, view, remove, removeAll, store, recall, copy, membership, info, join, leave, Call, command, onScenes, answer, next, InRange, loads, isTold}
 
 -- ---- reached nodes
 
@@ -30,10 +30,14 @@ pub data Reached : Node → Type 0 where
       → groupsSound (n .groups) ≡ true → n .groups .state .held ≡ 0 → Reached n
   after : (c : Call) {n : Node} → InRange c → Reached n → Reached (next c n)
 
+-- no call since the start passes the test
+abbrev pub NoneSince : (Call → Bool) → {n : Node} → Reached n → Type 0
+NoneSince p (begun n s e r g h) = Unit {0}
+NoneSince p (after c w r) = (p c ≡ false) × NoneSince p r
+
 -- filled only by joins, leaves and commands that ask: no load since, and no command that is told its membership
-abbrev pub OnlyAsks : {n : Node} → Reached n → Type 0
-OnlyAsks (begun n s e r g h) = Unit {0}
-OnlyAsks (after c w r) = (told c ≡ false) × OnlyAsks r
+abbrev pub fills : Call → Bool
+fills c = loads c || isTold c
 
 -- ---- equal answers to whole lists
 
@@ -98,12 +102,16 @@ pub record Agree (f : ℕ) (m n : Node) : Type 0 where
   pub memberships : List·Permᴰ (membershipsOf f m) (membershipsOf f n)
   pub free : freeMemberships m ≡ freeMemberships n
 
+-- two nodes with a history in which no call passes a test are equivalent exactly when they are related
+abbrev pub Exactly : (Call → Bool) → (ℕ → Node → Node → Type 0) → Type 0
+Exactly p R =
+    (f : ℕ) (m n : Node) → 1 ≤ f → f ≤ 255 → (rm : Reached m) → (rn : Reached n) → NoneSince p rm → NoneSince p rn
+    → m .scenes .state .size ≡ n .scenes .state .size → shareMode (m .scenes .state) ≡ shareMode (n .scenes .state)
+    → Equivalent f m n ↔ R f m n
+
 -- the first claim, of nodes that were begun empty and filled only by what asks
 abbrev pub AlikeExactly : Type 0
-AlikeExactly =
-    (f : ℕ) (m n : Node) → 1 ≤ f → f ≤ 255 → (rm : Reached m) → (rn : Reached n) → OnlyAsks rm → OnlyAsks rn
-    → m .scenes .state .size ≡ n .scenes .state .size → shareMode (m .scenes .state) ≡ shareMode (n .scenes .state)
-    → Equivalent f m n ↔ Agree f m n
+AlikeExactly = Exactly fills Agree
 
 -- what carries it: a scene of a group other than 0 has its membership
 abbrev pub Enrolled : Node → Type 0
@@ -112,7 +120,7 @@ Enrolled n =
     → (groupOf (x .key) ≡ 0) ⊎ (isMember (groupKey (fabricOf (x .key)) (endpointOf (x .key)) (groupOf (x .key))) (n .groups) ≡ true)
 
 abbrev pub ReachedEnrolled : Type 0
-ReachedEnrolled = (n : Node) → (r : Reached n) → OnlyAsks r → Enrolled n
+ReachedEnrolled = (n : Node) → (r : Reached n) → NoneSince fills r → Enrolled n
 
 -- the second claim, of any history: with memberships as inputs the scenes are equivalent exactly when they agree on the four matters
 abbrev pub WithInputs : Type 0

@@ -105,15 +105,27 @@ InRange (removal f) = f < 2 ^ 8
 InRange reset = Unit {0}
 InRange (onScenes c) = calls.InRange c
 
--- a call that fills the scenes from elsewhere: a load, or a command that is told its membership
-abbrev pub told : Call → Bool
-told (command f e c) = false
-told (removal f) = false
-told reset = false
-told (onScenes (calls.command f e c)) = true
-told (onScenes (calls.notice e)) = false
-told (onScenes (calls.removal f)) = false
-told (onScenes calls.reset) = false
-told (onScenes calls.start) = false
-told (onScenes calls.failSafeEvent) = false
-told (onScenes (calls.load image)) = true
+-- a load; a command that is told its membership. Both fill the scenes without asking
+abbrev pub loads : Call → Bool
+loads (command f e c) = false
+loads (removal f) = false
+loads reset = false
+loads (onScenes (calls.command f e c)) = false
+loads (onScenes (calls.notice e)) = false
+loads (onScenes (calls.removal f)) = false
+loads (onScenes calls.reset) = false
+loads (onScenes calls.start) = false
+loads (onScenes calls.failSafeEvent) = false
+loads (onScenes (calls.load image)) = true
+
+abbrev pub isTold : Call → Bool
+isTold (command f e c) = false
+isTold (removal f) = false
+isTold reset = false
+isTold (onScenes (calls.command f e c)) = true
+isTold (onScenes (calls.notice e)) = false
+isTold (onScenes (calls.removal f)) = false
+isTold (onScenes calls.reset) = false
+isTold (onScenes calls.start) = false
+isTold (onScenes calls.failSafeEvent) = false
+isTold (onScenes (calls.load image)) = false

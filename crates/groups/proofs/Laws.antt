@@ -1,14 +1,13 @@
--- The laws of sound memberships, and of the loop that looks for one. Assumes nothing.
-use Prim.Native.Nat.{ℕ, _+_, _≤_, _<_}
-use mathlib.Core.Path.{_≡_, refl, sym, ap, ap₂}
-use mathlib.Core.Bool.{Bool, true, false, not, _||_}
+-- The laws of sound memberships, and of what a read and a join answer. Assumes nothing.
+use Prim.Native.Nat.{ℕ, _≤_, _<_}
+use mathlib.Core.Path.{_≡_, refl, sym, ap}
+use mathlib.Core.Bool.{Bool, true, false, not}
 use mathlib.Core.List.{[], _∷_}
-use native.Mathlib.Numerals.{add-one}
 use native.Mathlib.Omega.{arith}
 use lib.Dec.{leb}
 use lib.ListN.{length, getD}
 use borrow.Author.Tests.{le-leb, lt-leb, leb-true, eq-eqb, ne-eqb, lt-ltb, le-ltb}
-use Rattle.words.specs.Below.{everyBelow, anyBelow}
+use Rattle.words.specs.Below.{everyBelow}
 use Rattle.words.specs.Conditions.{allOf}
 use Rattle.words.specs.Constants.{success, unsound, membershipsFull, maxMemberships}
 use Rattle.words.specs.declared.GroupKey.{GroupKey}
@@ -16,13 +15,6 @@ use Rattle.words.proofs.Tests.{and-true, and-false, all-head, all-tail}
 use Rattle.requests.specs.Requests.{firstRefusal, orNext, refuseIf, fabricGate}
 use Rattle.groups.specs.declared.GroupRead.{GroupRead}
 use Rattle.groups.specs.Groups.{Groups, groupSound, groupsSound, isMember, readGroup, joinedOf, ungroupedGate, joinGate, withMember, joinNew, joinGroup}
-
--- ---- at one position
-
--- a turn of a loop that looks at every position
-pub any-next : (p : ℕ → Bool) (i : ℕ) (b t : Bool) → b ≡ anyBelow p i → t ≡ p i → (b || t) ≡ anyBelow p (i + 1)
-unfolding anyBelow
-any-next p i b t h e = rw (add-one) (ap₂ (λ (x y : Bool). x || y) h e)
 
 -- ---- sound memberships
 

@@ -1,7 +1,7 @@
 -- The memberships that are held beside the scenes, and what joining, leaving and asking make of them: document 02, Q-7. A membership is a
 -- fabric, an endpoint and a group; Matter's name for such a list is the group table. Its lent memory is a slice of words of its own.
 use Prim.Native.Nat.{ℕ, _+_}
-use mathlib.Core.Bool.{Bool, true, false, cond, not, _&&_}
+use mathlib.Core.Bool.{Bool, false, cond, not, _&&_}
 use mathlib.Core.List.{List, [], _∷_}
 use lib.Dec.{eqb, leb, ltb}
 use lib.ListN.{length, getD, set, take}

@@ -4,7 +4,7 @@ use Prim.Native.Nat.{ℕ, _^_, _≤_, _<_}
 use native.Mathlib.Omega.{arith}
 use mathlib.Core.Path.{_≡_, refl, sym, ap, _∙_, subst, subst₂}
 use mathlib.Core.Bool.{Bool, true, false, _&&_, _||_}
-use mathlib.Core.List.{List, [], _∷_}
+use mathlib.Core.List.{[], _∷_}
 use lib.Dec.{eqb}
 use Rattle.words.specs.Constants.{insufficientSpace}
 use Rattle.words.specs.Words.{wordOf, fabricOf}
@@ -13,7 +13,7 @@ use Rattle.requests.specs.declared.Membership.the-variants.{Yes}
 use Rattle.requests.specs.Requests.{reserved, memberGate}
 use Rattle.state.specs.Table.{Table}
 use Rattle.observation.specs.Lists.{find}
-use Rattle.observation.specs.Calls.{Command, add, view, store, info, command, notice, answer, next, sceneKey, InRange}
+use Rattle.observation.specs.Calls.{Command, view, store, info, command, notice, answer, next, sceneKey, InRange}
 use Rattle.observation.specs.Equivalence.{keyIs, own, noticed, Same, wholeCopy, Equivalent, Agree}
 use Rattle.observation.proofs.Changes.{viewOf}
 use Rattle.observation.proofs.Effects.{Seen, viewed}

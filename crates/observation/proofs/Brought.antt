@@ -13,7 +13,7 @@ use Rattle.slots.specs.Slots.{SceneEntry}
 use Rattle.requests.specs.Requests.{wholeGroup}
 use Rattle.state.specs.Table.{Table}
 use Rattle.state.specs.Sound.{sound}
-use Rattle.observation.specs.Lists.{bit, count, find, keep}
+use Rattle.observation.specs.Lists.{bit, count, find}
 use Rattle.observation.specs.Calls.{Command, add, addRead, view, remove, removeAll, store, recall, copy, membership, info, command, next, sceneKey, CommandInRange}
 use Rattle.observation.specs.Equivalence.{keyIs}
 use Rattle.observation.proofs.Lists.{has}

@@ -1,9 +1,9 @@
 -- Demand 1: for each call, the numbers that it can answer, and no others, whatever its inputs and the table. Assumes nothing.
 use Prim.Native.Nat.{ℕ, zero, suc, _+_}
-use mathlib.Core.Path.{_≡_, refl}
+use mathlib.Core.Path.{_≡_, refl, sym, subst}
 use mathlib.Core.Bool.{Bool, true, false, cond, not, _||_}
 use mathlib.Core.Option.{Option}
-use mathlib.Core.List.{List, [], _∷_, map}
+use mathlib.Core.List.{List, [], _∷_, _++_, map}
 use lib.Dec.{eqb, ltb, leb}
 use lib.ListN.{length, getD}
 use Rattle.words.specs.Constants.{success, invalidCommand, constraintError, insufficientSpace, notFound, noFabric, membershipFailed, captureTooLong, applyFailed, singleElement, unsound, badPair, bufferTooShort, badImage, clashingImage, badFieldSets, notScenable, clusterUnknown, globalScene, reservedScene, maxTime, maxFields}
@@ -38,7 +38,7 @@ use Rattle.image_load.specs.Loading.{loadTlv, loadImage}
 use Rattle.field_sets.specs.Reader.{setsIn, holdsPairs}
 use Rattle.add_read.specs.Adding.{fieldSetsGate, addReadGate, addSceneRead}
 use Rattle.lifecycle.specs.Lifecycle.{scenableAttributeChanged, removedFabric, removeForFabric, factoryReset, startup, failSafe}
-use Rattle.observation.specs.Numbers.{Among}
+use Rattle.observation.specs.Numbers.{Among, failing}
 use mathlib.Core.Option as option
 
 -- what holds in both cases of a test
@@ -67,11 +67,11 @@ module _ (P : ℕ → Type 0) (zero-is : P success) where
   scene-is : P constraintError → (scene : ℕ) → P (sceneGate scene)
   scene-is reserved scene = refuse-if (eqb scene globalScene || eqb scene reservedScene) constraintError reserved
 
-  member-is : P invalidCommand → P membershipFailed → (g : ℕ) (m : Membership) → P (memberGate g m)
+  member-is : P invalidCommand → (m : Membership) → (m ≡ Failed → P membershipFailed) → (g : ℕ) → P (memberGate g m)
   unfolding memberGate
-  member-is never failed g Yes = either P (eqb g 0) zero-is zero-is
-  member-is never failed g No = either P (eqb g 0) zero-is never
-  member-is never failed g Failed = either P (eqb g 0) zero-is failed
+  member-is never Yes failed g = either P (eqb g 0) zero-is zero-is
+  member-is never No failed g = either P (eqb g 0) zero-is never
+  member-is never Failed failed g = either P (eqb g 0) zero-is (failed refl)
 
   pairs-are : P invalidCommand → P badPair → (pairs : List ℕ) → P (pairsGate pairs)
   unfolding pairsGate
@@ -82,7 +82,7 @@ module _ (P : ℕ → Type 0) (zero-is : P success) where
       go (p ∷ ps) = (either P (eqb p notScenable) never (refuse-if (ltb clusterUnknown p) badPair bad), go ps)
 
   -- the gates of the calls that may write a new entry
-  module _ (none : P noFabric) (reserved : P constraintError) (never : P invalidCommand) (failed : P membershipFailed) (m : Membership) where
+  module _ (none : P noFabric) (reserved : P constraintError) (never : P invalidCommand) (m : Membership) (failed : m ≡ Failed → P membershipFailed) where
     pub add-gate-is : P badPair → (key : SceneKey) (time : ℕ) (pairs : List ℕ) (len : ℕ) → P (fieldsGate maxFields len) → P (addGate key time m pairs maxFields len)
     unfolding addGate
     add-gate-is bad key time pairs len fields =
@@ -92,7 +92,7 @@ module _ (P : ℕ → Type 0) (zero-is : P success) where
             scene-is reserved (key .scene),
             (
               refuse-if (ltb maxTime time) constraintError reserved,
-              (member-is never failed (key .group) m, (pairs-are never bad pairs, (fields, tt))),
+              (member-is never m failed (key .group), (pairs-are never bad pairs, (fields, tt))),
             ),
           ),
         )
@@ -107,7 +107,7 @@ module _ (P : ℕ → Type 0) (zero-is : P success) where
             scene-is reserved (key .scene),
             (
               refuse-if (ltb maxTime time) constraintError reserved,
-              (member-is never failed (key .group) m, (refuse-if (not (holdsPairs (length pairs) (setsIn ext))) badFieldSets eleven, (pairs-are never bad pairs, (fields, tt)))),
+              (member-is never m failed (key .group), (refuse-if (not (holdsPairs (length pairs) (setsIn ext))) badFieldSets eleven, (pairs-are never bad pairs, (fields, tt)))),
             ),
           ),
         )
@@ -120,15 +120,15 @@ module _ (P : ℕ → Type 0) (zero-is : P success) where
           (
             scene-is reserved (key .scene),
             (
-              member-is never failed (key .group) m,
+              member-is never m failed (key .group),
               (refuse-if (ltb maxFields (len + 1)) captureTooLong long, tt),
             ),
           ),
         )
 
-    pub copy-gate-is : (c : CopyRequest) (n : Membership) → P (copyGate c m n)
+    pub copy-gate-is : (c : CopyRequest) (n : Membership) → (n ≡ Failed → P membershipFailed) → P (copyGate c m n)
     unfolding copyGate
-    copy-gate-is c n =
+    copy-gate-is c n failed′ =
         let copied-gate : (s : ℕ) → P (copiedGate (c .mode) s) = λ s. either P (wholeGroup (c .mode)) zero-is (scene-is reserved s) in
         first-each _ (
           fabric-is none (c .fabric),
@@ -136,7 +136,7 @@ module _ (P : ℕ → Type 0) (zero-is : P success) where
             copied-gate (c .from .scene),
             (
               copied-gate (c .to .scene),
-              (member-is never failed (c .from .group) m, (member-is never failed (c .to .group) n, tt)),
+              (member-is never m failed (c .from .group), (member-is never n failed′ (c .to .group), tt)),
             ),
           ),
         )
@@ -231,86 +231,97 @@ module _ (P : ℕ → Type 0) (done : P success) where
 -- ---- the calls
 
 module _ (key : SceneKey) (m : Membership) (t : Table) where
-  pub add-numbers : (time : ℕ) (pairs ext : List ℕ) → Among (0 ∷ 1 ∷ 2 ∷ 6 ∷ 7 ∷ 0x85 ∷ 0x87 ∷ 0x89 ∷ []) (addScene key time m pairs ext t .status)
+  pub add-numbers : (time : ℕ) (pairs ext : List ℕ) → Among (0 ∷ 1 ∷ 6 ∷ 7 ∷ 0x85 ∷ 0x87 ∷ 0x89 ∷ failing m) (addScene key time m pairs ext t .status)
   unfolding addScene
   add-numbers time pairs ext =
-      let P : ℕ → Type 0 = Among (0 ∷ 1 ∷ 2 ∷ 6 ∷ 7 ∷ 0x85 ∷ 0x87 ∷ 0x89 ∷ []) in
+      let Q : Membership → ℕ → Type 0 = λ x. Among (0 ∷ 1 ∷ 6 ∷ 7 ∷ 0x85 ∷ 0x87 ∷ 0x89 ∷ failing x) in
+      let P = Q m in
       guarded-is P refl (λ (r : Result). r .status) (refused t) (λ n. refl) t _ _ refl
-      (add-gate-is P refl refl refl refl refl m refl key time pairs (length ext) (refuse-if P refl (ltb maxFields (length ext)) insufficientSpace refl))
+      (add-gate-is P refl refl refl refl m (λ e. subst (λ (x : Membership). Q x membershipFailed) (sym e) refl) refl key time pairs (length ext) (refuse-if P refl (ltb maxFields (length ext)) insufficientSpace refl))
       (upsert-is P refl refl key time ext t)
 
   -- an add's numbers and 11
-  pub addRead-numbers : (time : ℕ) (pairs ext : List ℕ) → Among (0 ∷ 1 ∷ 2 ∷ 6 ∷ 7 ∷ 11 ∷ 0x85 ∷ 0x87 ∷ 0x89 ∷ []) (addSceneRead key time m pairs ext t .status)
+  pub addRead-numbers : (time : ℕ) (pairs ext : List ℕ) → Among (0 ∷ 1 ∷ 6 ∷ 7 ∷ 11 ∷ 0x85 ∷ 0x87 ∷ 0x89 ∷ failing m) (addSceneRead key time m pairs ext t .status)
   unfolding addSceneRead
   addRead-numbers time pairs ext =
-      let P : ℕ → Type 0 = Among (0 ∷ 1 ∷ 2 ∷ 6 ∷ 7 ∷ 11 ∷ 0x85 ∷ 0x87 ∷ 0x89 ∷ []) in
+      let Q : Membership → ℕ → Type 0 = λ x. Among (0 ∷ 1 ∷ 6 ∷ 7 ∷ 11 ∷ 0x85 ∷ 0x87 ∷ 0x89 ∷ failing x) in
+      let P = Q m in
       guarded-is P refl (λ (r : Result). r .status) (refused t) (λ n. refl) t _ _ refl
-      (addRead-gate-is P refl refl refl refl refl m refl refl key time pairs ext (refuse-if P refl (ltb maxFields (length ext)) insufficientSpace refl))
+      (addRead-gate-is P refl refl refl refl m (λ e. subst (λ (x : Membership). Q x membershipFailed) (sym e) refl) refl refl key time pairs ext (refuse-if P refl (ltb maxFields (length ext)) insufficientSpace refl))
       (upsert-is P refl refl key time ext t)
 
-  pub store-numbers : (captured : List ℕ) → Among (0 ∷ 1 ∷ 2 ∷ 3 ∷ 6 ∷ 0x85 ∷ 0x87 ∷ 0x89 ∷ []) (storeScene key m captured t .status)
+  pub store-numbers : (captured : List ℕ) → Among (0 ∷ 1 ∷ 3 ∷ 6 ∷ 0x85 ∷ 0x87 ∷ 0x89 ∷ failing m) (storeScene key m captured t .status)
   unfolding storeScene storeCaptured
   store-numbers captured =
-      let P : ℕ → Type 0 = Among (0 ∷ 1 ∷ 2 ∷ 3 ∷ 6 ∷ 0x85 ∷ 0x87 ∷ 0x89 ∷ []) in
+      let Q : Membership → ℕ → Type 0 = λ x. Among (0 ∷ 1 ∷ 3 ∷ 6 ∷ 0x85 ∷ 0x87 ∷ 0x89 ∷ failing x) in
+      let P = Q m in
       guarded-is P refl (λ (r : Result). r .status) (refused t) (λ n. refl) t _ _ refl
-      (store-gate-is P refl refl refl refl refl m refl key (length captured))
+      (store-gate-is P refl refl refl refl m (λ e. subst (λ (x : Membership). Q x membershipFailed) (sym e) refl) refl key (length captured))
       (stored-is P refl key _ (upsert-is P refl refl key _ _ t))
 
   -- view, remove and recall have one gate
-  lookup-is : (P : ℕ → Type 0) → P success → P noFabric → P constraintError → P invalidCommand → P membershipFailed → P (lookupGate key m)
+  lookup-is : (P : ℕ → Type 0) → P success → P noFabric → P constraintError → P invalidCommand → (m ≡ Failed → P membershipFailed) → P (lookupGate key m)
   unfolding lookupGate
   lookup-is P zero-is none reserved never failed =
-      first-each P zero-is _ (fabric-is P zero-is none (key .fabric), (scene-is P zero-is reserved (key .scene), (member-is P zero-is never failed (key .group) m, tt)))
+      first-each P zero-is _ (fabric-is P zero-is none (key .fabric), (scene-is P zero-is reserved (key .scene), (member-is P zero-is never m failed (key .group), tt)))
 
-  pub view-numbers : Among (0 ∷ 1 ∷ 2 ∷ 6 ∷ 0x85 ∷ 0x87 ∷ 0x8B ∷ []) (viewScene key m t .status)
+  pub view-numbers : Among (0 ∷ 1 ∷ 6 ∷ 0x85 ∷ 0x87 ∷ 0x8B ∷ failing m) (viewScene key m t .status)
   unfolding viewScene
   view-numbers =
-      let P : ℕ → Type 0 = Among (0 ∷ 1 ∷ 2 ∷ 6 ∷ 0x85 ∷ 0x87 ∷ 0x8B ∷ []) in
-      guarded-is P refl (λ (r : SceneRead). r .status) _ (λ n. refl) t _ _ refl (lookup-is P refl refl refl refl refl) (read-is P refl refl (findScene key t) _ t)
+      let Q : Membership → ℕ → Type 0 = λ x. Among (0 ∷ 1 ∷ 6 ∷ 0x85 ∷ 0x87 ∷ 0x8B ∷ failing x) in
+      let P = Q m in
+      guarded-is P refl (λ (r : SceneRead). r .status) _ (λ n. refl) t _ _ refl (lookup-is P refl refl refl refl (λ e. subst (λ (x : Membership). Q x membershipFailed) (sym e) refl)) (read-is P refl refl (findScene key t) _ t)
 
-  pub lookup-numbers : (o : Transition) → Among (0 ∷ 1 ∷ 2 ∷ 6 ∷ 0x85 ∷ 0x87 ∷ 0x8B ∷ []) (recallLookup key m o t .status)
+  pub lookup-numbers : (o : Transition) → Among (0 ∷ 1 ∷ 6 ∷ 0x85 ∷ 0x87 ∷ 0x8B ∷ failing m) (recallLookup key m o t .status)
   unfolding recallLookup
   lookup-numbers o =
-      let P : ℕ → Type 0 = Among (0 ∷ 1 ∷ 2 ∷ 6 ∷ 0x85 ∷ 0x87 ∷ 0x8B ∷ []) in
-      guarded-is P refl (λ (r : SceneRead). r .status) _ (λ n. refl) t _ _ refl (lookup-is P refl refl refl refl refl) (read-is P refl refl (findScene key t) o t)
+      let Q : Membership → ℕ → Type 0 = λ x. Among (0 ∷ 1 ∷ 6 ∷ 0x85 ∷ 0x87 ∷ 0x8B ∷ failing x) in
+      let P = Q m in
+      guarded-is P refl (λ (r : SceneRead). r .status) _ (λ n. refl) t _ _ refl (lookup-is P refl refl refl refl (λ e. subst (λ (x : Membership). Q x membershipFailed) (sym e) refl)) (read-is P refl refl (findScene key t) o t)
 
-  pub remove-numbers : Among (0 ∷ 1 ∷ 2 ∷ 6 ∷ 0x85 ∷ 0x87 ∷ 0x8B ∷ []) (removeScene key m t .status)
+  pub remove-numbers : Among (0 ∷ 1 ∷ 6 ∷ 0x85 ∷ 0x87 ∷ 0x8B ∷ failing m) (removeScene key m t .status)
   unfolding removeScene
   remove-numbers =
-      let P : ℕ → Type 0 = Among (0 ∷ 1 ∷ 2 ∷ 6 ∷ 0x85 ∷ 0x87 ∷ 0x8B ∷ []) in
-      guarded-is P refl (λ (r : Result). r .status) (refused t) (λ n. refl) t _ _ refl (lookup-is P refl refl refl refl refl) (removed-is P refl refl (findScene key t) key t)
+      let Q : Membership → ℕ → Type 0 = λ x. Among (0 ∷ 1 ∷ 6 ∷ 0x85 ∷ 0x87 ∷ 0x8B ∷ failing x) in
+      let P = Q m in
+      guarded-is P refl (λ (r : Result). r .status) (refused t) (λ n. refl) t _ _ refl (lookup-is P refl refl refl refl (λ e. subst (λ (x : Membership). Q x membershipFailed) (sym e) refl)) (removed-is P refl refl (findScene key t) key t)
 
-  pub recall-numbers : (a : Applied) → Among (0 ∷ 1 ∷ 2 ∷ 4 ∷ 6 ∷ 0x85 ∷ 0x87 ∷ 0x8B ∷ []) (recallScene key m a t .status)
+  pub recall-numbers : (a : Applied) → Among (0 ∷ 1 ∷ 4 ∷ 6 ∷ 0x85 ∷ 0x87 ∷ 0x8B ∷ failing m) (recallScene key m a t .status)
   unfolding recallScene
   recall-numbers a =
-      let P : ℕ → Type 0 = Among (0 ∷ 1 ∷ 2 ∷ 4 ∷ 6 ∷ 0x85 ∷ 0x87 ∷ 0x8B ∷ []) in
-      guarded-is P refl (λ (r : Result). r .status) (refused t) (λ n. refl) t _ _ refl (lookup-is P refl refl refl refl refl) (recalled-is P refl refl refl (findScene key t) key a t)
+      let Q : Membership → ℕ → Type 0 = λ x. Among (0 ∷ 1 ∷ 4 ∷ 6 ∷ 0x85 ∷ 0x87 ∷ 0x8B ∷ failing x) in
+      let P = Q m in
+      guarded-is P refl (λ (r : Result). r .status) (refused t) (λ n. refl) t _ _ refl (lookup-is P refl refl refl refl (λ e. subst (λ (x : Membership). Q x membershipFailed) (sym e) refl)) (recalled-is P refl refl refl (findScene key t) key a t)
 
 module _ (key : GroupKey) (m : Membership) (t : Table) where
-  group-is : (P : ℕ → Type 0) → P success → P noFabric → P invalidCommand → P membershipFailed → P (groupGate key m)
+  group-is : (P : ℕ → Type 0) → P success → P noFabric → P invalidCommand → (m ≡ Failed → P membershipFailed) → P (groupGate key m)
   unfolding groupGate
-  group-is P zero-is none never failed = first-each P zero-is _ (fabric-is P zero-is none (key .fabric), (member-is P zero-is never failed (key .group) m, tt))
+  group-is P zero-is none never failed = first-each P zero-is _ (fabric-is P zero-is none (key .fabric), (member-is P zero-is never m failed (key .group), tt))
 
-  pub removeAll-numbers : Among (0 ∷ 1 ∷ 2 ∷ 6 ∷ 0x85 ∷ []) (removeAllScenes key m t .status)
+  pub removeAll-numbers : Among (0 ∷ 1 ∷ 6 ∷ 0x85 ∷ failing m) (removeAllScenes key m t .status)
   unfolding removeAllScenes removedAll
   removeAll-numbers =
-      let P : ℕ → Type 0 = Among (0 ∷ 1 ∷ 2 ∷ 6 ∷ 0x85 ∷ []) in
-      guarded-is P refl (λ (r : Result). r .status) (refused t) (λ n. refl) t _ _ refl (group-is P refl refl refl refl)
+      let Q : Membership → ℕ → Type 0 = λ x. Among (0 ∷ 1 ∷ 6 ∷ 0x85 ∷ failing x) in
+      let P = Q m in
+      guarded-is P refl (λ (r : Result). r .status) (refused t) (λ n. refl) t _ _ refl (group-is P refl refl refl (λ e. subst (λ (x : Membership). Q x membershipFailed) (sym e) refl))
       (either (λ (r : Result). P (r .status)) (eqb (withEntries (retainOutside (groupKeys (key .fabric) (key .endpoint) (key .group))) t .state .entries) (t .state .entries)) refl refl)
 
-  pub membership-numbers : (buffer : List ℕ) → Among (0 ∷ 1 ∷ 2 ∷ 6 ∷ 8 ∷ 0x85 ∷ []) (getSceneMembership key m buffer t .read .status)
+  pub membership-numbers : (buffer : List ℕ) → Among (0 ∷ 1 ∷ 6 ∷ 8 ∷ 0x85 ∷ failing m) (getSceneMembership key m buffer t .read .status)
   unfolding getSceneMembership
   membership-numbers buffer =
-      let P : ℕ → Type 0 = Among (0 ∷ 1 ∷ 2 ∷ 6 ∷ 8 ∷ 0x85 ∷ []) in
-      guarded-is P refl (λ (l : Listed). l .read .status) _ (λ n. refl) t _ _ refl (group-is P refl refl refl refl)
+      let Q : Membership → ℕ → Type 0 = λ x. Among (0 ∷ 1 ∷ 6 ∷ 8 ∷ 0x85 ∷ failing x) in
+      let P = Q m in
+      guarded-is P refl (λ (l : Listed). l .read .status) _ (λ n. refl) t _ _ refl (group-is P refl refl refl (λ e. subst (λ (x : Membership). Q x membershipFailed) (sym e) refl))
       (list-is P refl refl (sceneIds key t) _ buffer t)
 
-pub copy-numbers : (c : CopyRequest) (m n : Membership) (t : Table) → Among (0 ∷ 1 ∷ 2 ∷ 6 ∷ 0x85 ∷ 0x87 ∷ 0x89 ∷ 0x8B ∷ []) (copyScene c m n t .status)
+pub copy-numbers : (c : CopyRequest) (m n : Membership) (t : Table) → Among (0 ∷ 1 ∷ 6 ∷ 0x85 ∷ 0x87 ∷ 0x89 ∷ 0x8B ∷ failing m ++ failing n) (copyScene c m n t .status)
 unfolding copyScene
 copy-numbers c m n t =
-    let P : ℕ → Type 0 = Among (0 ∷ 1 ∷ 2 ∷ 6 ∷ 0x85 ∷ 0x87 ∷ 0x89 ∷ 0x8B ∷ []) in
+    let Q : Membership → Membership → ℕ → Type 0 = λ x y. Among (0 ∷ 1 ∷ 6 ∷ 0x85 ∷ 0x87 ∷ 0x89 ∷ 0x8B ∷ failing x ++ failing y) in
+    let P = Q m n in
+    let target : (x : Membership) → Q x Failed membershipFailed = λ x. elim x [ Yes ↦ refl | No ↦ refl | Failed ↦ refl ] in
     guarded-is P refl (λ (r : Result). r .status) (refused t) (λ k. refl) t _ _ refl
-    (copy-gate-is P refl refl refl refl refl m c n)
+    (copy-gate-is P refl refl refl refl m (λ e. subst (λ (x : Membership). Q x n membershipFailed) (sym e) refl) c n (λ e. subst (λ (x : Membership). Q m x membershipFailed) (sym e) (target m)))
     (inner-is P refl refl refl c t)
 
 pub info-numbers : (fabric endpoint : ℕ) (single : Bool) (t : Table) → Among (0 ∷ 1 ∷ 5 ∷ 6 ∷ []) (readFabricSceneInfo fabric endpoint single t .status)

@@ -24,7 +24,9 @@ use Rattle.state.proofs.Laws.{sound-bounds}
 use Rattle.observation.specs.Lists.{bit, count, find, keep}
 use Rattle.observation.specs.Calls.{Command, add, addRead, view, remove, removeAll, store, recall, copy, membership, info, Call, command, notice, removal, reset, start, failSafeEvent, load, answer, next, step, does, withState, sceneKey, groupKey, copyRequest, CommandInRange, InRange}
 use Rattle.observation.specs.Equivalence.{Reached, empty, after, keyIs, mine}
-use Rattle.observation.specs.Numbers.{oneOf, Among}
+use Rattle.requests.specs.declared.Membership.{Membership}
+use Rattle.requests.specs.declared.Membership.the-variants.{Yes, No, Failed}
+use Rattle.observation.specs.Numbers.{oneOf, Among, failing}
 use Rattle.observation.specs.Share.{brings, NoneSince, WithinShare, longFields, OnlyWhenFull}
 use Rattle.observation.proofs.Lists.{has, takeOut}
 use Rattle.observation.proofs.Lookups.{holds, entryOf}
@@ -253,6 +255,17 @@ no n e = eqb-false n insufficientSpace e
 among-other : (ms : List ℕ) (n : ℕ) → Among ms n → oneOf ms insufficientSpace ≡ false → Other n
 among-other ms n a e z = false≢true (sym e ∙ subst (λ (k : ℕ). oneOf ms k ≡ true) z a)
 
+one-append : (ms ns : List ℕ) (n : ℕ) → oneOf (ms ++ ns) n ≡ (oneOf ms n || oneOf ns n)
+one-append [] ns n = refl
+one-append (m ∷ ms) ns n = elim (eqb m n) as (λ b. (b || oneOf (ms ++ ns) n) ≡ ((b || oneOf ms n) || oneOf ns n)) [ true ↦ refl | false ↦ one-append ms ns n ]
+
+-- the same of a call that is told a membership
+among-told : (ms : List ℕ) (m : Membership) (n : ℕ) → Among (ms ++ failing m) n → oneOf ms insufficientSpace ≡ false → Other n
+among-told ms m n a e =
+    among-other (ms ++ failing m) n a
+    (one-append ms (failing m) insufficientSpace
+    ∙ (λ i. e i || elim m as (λ x. oneOf (failing x) insufficientSpace ≡ false) [ Yes ↦ refl | No ↦ refl | Failed ↦ refl ] i))
+
 -- fields that are not long are no reason
 short : (len : ℕ) → ltb maxFields len ≡ false → Other (fieldsGate maxFields len)
 short len e z = absurd (omega (arith, ap (λ (b : Bool). cond b insufficientSpace success) e))
@@ -274,40 +287,40 @@ module _ (f e : ℕ) (t : Table) (sd : sound t ≡ true) (hf : f < 2 ^ 8) (he : 
   unfolding step does
   full (add g s time m pairs ext) h n =
       gated (add g s time m pairs ext) h
-      (add-gate-is Other (no 0 refl) (no 1 refl) (no 0x87 refl) (no 0x85 refl) (no 2 refl) m (no 7 refl) (sceneKey f e g s) time pairs (length ext) (short (length ext) n))
+      (add-gate-is Other (no 0 refl) (no 1 refl) (no 0x87 refl) (no 0x85 refl) m (λ _. no 2 refl) (no 7 refl) (sceneKey f e g s) time pairs (length ext) (short (length ext) n))
       (λ z.
       subst (Full f) (sym (laws .commands f e t sd hf he .add-acts g s time m pairs ext h z))
       (upsert-full f (wordOf (sceneKey f e g s)) (viewOf t) _))
   full (addRead g s time m pairs ext) h n =
       gated (addRead g s time m pairs ext) h
-      (addRead-gate-is Other (no 0 refl) (no 1 refl) (no 0x87 refl) (no 0x85 refl) (no 2 refl) m (no 7 refl) (no 11 refl) (sceneKey f e g s) time pairs ext (short (length ext) n))
+      (addRead-gate-is Other (no 0 refl) (no 1 refl) (no 0x87 refl) (no 0x85 refl) m (λ _. no 2 refl) (no 7 refl) (no 11 refl) (sceneKey f e g s) time pairs ext (short (length ext) n))
       (λ z.
       subst (Full f) (sym (laws .commands f e t sd hf he .addRead-acts g s time m pairs ext h z))
       (upsert-full f (wordOf (sceneKey f e g s)) (viewOf t) _))
   full (store g s m captured) h n =
       gated (store g s m captured) h
-      (store-gate-is Other (no 0 refl) (no 1 refl) (no 0x87 refl) (no 0x85 refl) (no 2 refl) m (no 3 refl) (sceneKey f e g s) (length captured))
+      (store-gate-is Other (no 0 refl) (no 1 refl) (no 0x87 refl) (no 0x85 refl) m (λ _. no 2 refl) (no 3 refl) (sceneKey f e g s) (length captured))
       (λ z.
       subst (Full f) (sym (laws .commands f e t sd hf he .store-acts g s m captured h z))
       (upsert-full f (wordOf (sceneKey f e g s)) (viewOf t) _))
   full (copy mode g s k r m n′) h n =
       gated (copy mode g s k r m n′) h
-      (copy-gate-is Other (no 0 refl) (no 1 refl) (no 0x87 refl) (no 0x85 refl) (no 2 refl) m (copyRequest f e mode g s k r) n′)
+      (copy-gate-is Other (no 0 refl) (no 1 refl) (no 0x87 refl) (no 0x85 refl) m (λ _. no 2 refl) (copyRequest f e mode g s k r) n′ (λ _. no 2 refl))
       (λ z.
       subst (Full f) (sym (laws .commands f e t sd hf he .copy-acts mode g s k r m n′ h z))
       (cond-elim (Full f) (eqb (roomIn f (viewOf t)) 0) (λ q _. room-full f (viewOf t) (eqb-true (roomIn f (viewOf t)) 0 q))
       (λ _. copy-full f (scopeOf f e mode k r) (map (target f e mode k r) (sources f e mode g s (viewOf t))) (viewOf t))))
   full (view g s m) h n =
-      never (view g s m) (among-other (0 ∷ 1 ∷ 2 ∷ 6 ∷ 0x85 ∷ 0x87 ∷ 0x8B ∷ []) _ (view-numbers (sceneKey f e g s) m t) refl)
+      never (view g s m) (among-told (0 ∷ 1 ∷ 6 ∷ 0x85 ∷ 0x87 ∷ 0x8B ∷ []) m _ (view-numbers (sceneKey f e g s) m t) refl)
   full (remove g s m) h n =
-      never (remove g s m) (among-other (0 ∷ 1 ∷ 2 ∷ 6 ∷ 0x85 ∷ 0x87 ∷ 0x8B ∷ []) _ (remove-numbers (sceneKey f e g s) m t) refl)
-  full (removeAll g m) h n = never (removeAll g m) (among-other (0 ∷ 1 ∷ 2 ∷ 6 ∷ 0x85 ∷ []) _ (removeAll-numbers (groupKey f e g) m t) refl)
+      never (remove g s m) (among-told (0 ∷ 1 ∷ 6 ∷ 0x85 ∷ 0x87 ∷ 0x8B ∷ []) m _ (remove-numbers (sceneKey f e g s) m t) refl)
+  full (removeAll g m) h n = never (removeAll g m) (among-told (0 ∷ 1 ∷ 6 ∷ 0x85 ∷ []) m _ (removeAll-numbers (groupKey f e g) m t) refl)
   full (recall g s m o a) h n =
       let key = sceneKey f e g s in
       never (recall g s m o a)
-      (among-other (0 ∷ 1 ∷ 2 ∷ 4 ∷ 6 ∷ 0x85 ∷ 0x87 ∷ 0x8B ∷ []) _ (recall-numbers key m (withState (recallLookup key m o t .state) t) a) refl)
+      (among-told (0 ∷ 1 ∷ 4 ∷ 6 ∷ 0x85 ∷ 0x87 ∷ 0x8B ∷ []) m _ (recall-numbers key m (withState (recallLookup key m o t .state) t) a) refl)
   full (membership g m buffer) h n =
-      never (membership g m buffer) (among-other (0 ∷ 1 ∷ 2 ∷ 6 ∷ 8 ∷ 0x85 ∷ []) _ (membership-numbers (groupKey f e g) m t buffer) refl)
+      never (membership g m buffer) (among-told (0 ∷ 1 ∷ 6 ∷ 8 ∷ 0x85 ∷ []) m _ (membership-numbers (groupKey f e g) m t buffer) refl)
   full (info single) h n = never (info single) (among-other (0 ∷ 1 ∷ 5 ∷ 6 ∷ []) _ (info-numbers f e single t) refl)
 
 pub only-when-full : OnlyWhenFull

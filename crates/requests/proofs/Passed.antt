@@ -12,17 +12,18 @@ use Rattle.requests.specs.declared.Membership.{Membership}
 use Rattle.requests.specs.declared.CopyRequest.{CopyRequest}
 use Rattle.requests.specs.Requests.{orNext, firstRefusal, refuseIf, reserved, fabricGate, sceneGate, wholeGroup, addGate, storeGate, lookupGate, copyGate}
 
-first-pass : (r : ℕ) (rs : List ℕ) → firstRefusal (r ∷ rs) ≡ 0 → (r ≡ 0) × (firstRefusal rs ≡ 0)
+-- what a list of tests, a single test and that of the fabric have that let a request through
+pub first-pass : (r : ℕ) (rs : List ℕ) → firstRefusal (r ∷ rs) ≡ 0 → (r ≡ 0) × (firstRefusal rs ≡ 0)
 unfolding firstRefusal orNext
 first-pass r rs e =
     (elim (eqb r 0) as (λ c. eqb r 0 ≡ c → cond c (firstRefusal rs) r ≡ 0 → (r ≡ 0) × (firstRefusal rs ≡ 0))
     [ true ↦ λ z q. (eqb-true r 0 z, q) | false ↦ λ z q. absurd (eqb-false r 0 z q) ]) refl e
 
-if-pass : (b : Bool) (n : ℕ) → 1 ≤ n → refuseIf b n ≡ 0 → b ≡ false
+pub if-pass : (b : Bool) (n : ℕ) → 1 ≤ n → refuseIf b n ≡ 0 → b ≡ false
 if-pass true n h e = absurd (omega arith)
 if-pass false n h e = refl
 
-fabric-pass : (f : ℕ) → fabricGate f ≡ 0 → 1 ≤ f
+pub fabric-pass : (f : ℕ) → fabricGate f ≡ 0 → 1 ≤ f
 fabric-pass f e = omega (arith, eqb-false f 0 (if-pass (eqb f 0) 1 (omega arith) e))
 
 scene-pass : (s : ℕ) → sceneGate s ≡ 0 → reserved s ≡ false

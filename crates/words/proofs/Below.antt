@@ -1,7 +1,7 @@
 -- The laws of the positions below a count. Assumes nothing.
 use Prim.Native.Nat.{ℕ, zero, suc, _+_, _≤_, _<_}
 use mathlib.Core.Path.{_≡_, refl, sym, ap, ap₂, subst, _∙_}
-use mathlib.Core.Bool.{Bool, true, false, not, cond, _&&_}
+use mathlib.Core.Bool.{Bool, true, false, not, cond, _&&_, _||_}
 use mathlib.Core.List.{List, [], _∷_, _++_}
 use mathlib.Core.Logic.{⊎-elim}
 use native.Mathlib.Numerals.{add-one}
@@ -92,6 +92,11 @@ module _ (p : ℕ → Bool) where
   pub any-miss : (i : ℕ) → p i ≡ false → anyBelow p (i + 1) ≡ anyBelow p i
   unfolding anyBelow
   any-miss i e = rw (add-one i, e) (or-false (anyBelow p i))
+
+  -- a turn of a loop that looks at every position
+  pub any-next : (i : ℕ) (b t : Bool) → b ≡ anyBelow p i → t ≡ p i → (b || t) ≡ anyBelow p (i + 1)
+  unfolding anyBelow
+  any-next i b t h e = rw (add-one) (ap₂ (λ (x y : Bool). x || y) h e)
 
   -- ---- at how many
 

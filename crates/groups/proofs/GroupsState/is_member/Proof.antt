@@ -7,9 +7,8 @@ use borrow.Author.Needs.{needs}
 use lib.Dec.{eqb}
 use lib.ListN.{getD}
 use Rattle.words.specs.Below.{anyBelow}
-use Rattle.words.proofs.Below.{any-none}
+use Rattle.words.proofs.Below.{any-none, any-next}
 use Rattle.groups.specs.Groups.{isMember}
-use Rattle.groups.proofs.Laws.{any-next}
 use Rattle.groups.proofs.GroupsState.is_member.Statement.{statement}
 use Rattle.groups.proofs.GroupsState.is_member.Tie as tie
 
