@@ -155,6 +155,19 @@ pub(crate) struct LentMut<'a> {
     pub records: &'a mut [u64],
 }
 
+/// Lent memberships with their head, to be read.
+#[derive(Clone, Copy)]
+pub(crate) struct Groups<'a> {
+    pub state: GroupsState,
+    pub words: &'a [u64],
+}
+
+/// The same, to be written.
+pub(crate) struct GroupsMut<'a> {
+    pub state: GroupsState,
+    pub words: &'a mut [u64],
+}
+
 extern "C" {
     fn scenes_version() -> u32;
     fn scenes_new(size: usize) -> State;
@@ -324,7 +337,7 @@ extern "C" {
 // The calls of memberships and of a table beside them: all of host/scenes_groups.h. Each tests what it is lent. SAFETY: as above. The words are
 // borrowed exclusively where they are written.
 macro_rules! group_calls {
-    ($($lent:ident, $at:ident, $p:ident, $words:ty, $words_at:ident, $words_p:ident: {
+    ($($lent:ident, $at:ident, $p:ident, $groups:ident, $words_at:ident, $words_p:ident: {
         $(fn $name:ident($($arg:ident: $ty:ty),*) -> $answer:ty = $symbol:ident($($passed:expr => $as:ty),*);)*
     })*) => {
         /// The calls that are lent memberships.
@@ -339,29 +352,29 @@ macro_rules! group_calls {
             }
 
             /// Whether memberships are sound.
-            pub(crate) fn is_sound(groups: GroupsState, words: &[u64]) -> bool {
-                unsafe { scenes_groups_is_sound(groups, words.as_ptr(), words.len()) != 0 }
+            pub(crate) fn is_sound(groups: Groups<'_>) -> bool {
+                unsafe { scenes_groups_is_sound(groups.state, groups.words.as_ptr(), groups.words.len()) != 0 }
             }
 
             /// Joins a group.
-            pub(crate) fn join(groups: GroupsState, words: &mut [u64], key: GroupKey) -> GroupsOutcome {
-                unsafe { scenes_join(groups, words.as_mut_ptr(), words.len(), key) }
+            pub(crate) fn join(groups: GroupsMut<'_>, key: GroupKey) -> GroupsOutcome {
+                unsafe { scenes_join(groups.state, groups.words.as_mut_ptr(), groups.words.len(), key) }
             }
 
             /// Whether a membership is held.
-            pub(crate) fn is_member(groups: GroupsState, words: &[u64], key: GroupKey) -> GroupRead {
-                unsafe { scenes_is_member(groups, words.as_ptr(), words.len(), key) }
+            pub(crate) fn is_member(groups: Groups<'_>, key: GroupKey) -> GroupRead {
+                unsafe { scenes_is_member(groups.state, groups.words.as_ptr(), groups.words.len(), key) }
             }
 
             $($(declared! { $p: $symbol(GroupsState, $words_p!(u64), usize $(, $as)*) -> $answer }
 
             #[inline]
-            pub(crate) fn $name(state: State, lent: $lent<'_>, groups: GroupsState, words: $words, $($arg: $ty),*) -> $answer {
-                let (k, t, f, r) = (lent.keys, lent.times, lent.fields, lent.records);
+            pub(crate) fn $name(state: State, lent: $lent<'_>, groups: $groups<'_>, $($arg: $ty),*) -> $answer {
+                let (k, t, f, r, w) = (lent.keys, lent.times, lent.fields, lent.records, groups.words);
                 unsafe {
                     $symbol(
                         state, k.$at(), k.len(), t.$at(), t.len(), f.$at(), f.len(), r.$at(), r.len(),
-                        groups, words.$words_at(), words.len(), $($passed),*
+                        groups.state, w.$words_at(), w.len(), $($passed),*
                     )
                 }
             })*)*
@@ -370,7 +383,7 @@ macro_rules! group_calls {
 }
 
 group_calls! {
-    Lent, as_ptr, read, &[u64], as_ptr, read: {
+    Lent, as_ptr, read, Groups, as_ptr, read: {
         fn view(key: SceneKey) -> SceneRead = scenes_view_asking(key => SceneKey);
         fn recall_lookup(key: SceneKey, given: u8, time: u32) -> SceneRead
             = scenes_recall_lookup_asking(key => SceneKey, given => u8, time => u32);
@@ -380,7 +393,7 @@ group_calls! {
     }
 
     // A recall writes the records alone; for it the header has the other three as constant.
-    LentMut, as_mut_ptr, write, &[u64], as_ptr, read: {
+    LentMut, as_mut_ptr, write, Groups, as_ptr, read: {
         fn add(key: SceneKey, time: u32, pairs: &[u8], ext: &[u8]) -> Outcome
             = scenes_add_asking(
                 key => SceneKey, time => u32,
@@ -399,7 +412,7 @@ group_calls! {
         fn copy(request: CopyRequest) -> Outcome = scenes_copy_asking(request => CopyRequest);
     }
 
-    LentMut, as_mut_ptr, write, &mut [u64], as_mut_ptr, write: {
+    LentMut, as_mut_ptr, write, GroupsMut, as_mut_ptr, write: {
         fn leave(key: GroupKey) -> BothOutcome = scenes_leave(key => GroupKey);
         fn remove_fabric(fabric: u8) -> BothOutcome = scenes_remove_fabric_and_groups(fabric => u8);
     }

@@ -1,6 +1,6 @@
 //! A table with memberships beside it: a method for each call that asks them or changes them, and the table's others.
 use crate::answers::{Done, Error, InfoRow, Scene, SceneList, Stored};
-use crate::ffi::{self, BothOutcome, GroupsState, Outcome};
+use crate::ffi::{self, BothOutcome, Groups, GroupsMut, GroupsState, LentMut, Outcome, State};
 use crate::fields::{ask_pairs, pairs_max, Asked};
 use crate::requests::{Applied, CopyRequest, GroupKey, SceneKey, Transition};
 use crate::table::{Scenes, MAX_FIELDS};
@@ -94,7 +94,7 @@ impl<const N: usize> GroupedScenes<N> {
         let mut table = Self::beside(scenes);
         table.words.get_mut(..words.len()).ok_or(Error::Unsound)?.copy_from_slice(words);
         table.held = words.len();
-        if ffi::groups::is_sound(table.groups(), &table.words) {
+        if ffi::groups::is_sound(table.groups()) {
             Ok(table)
         } else {
             Err(Error::Unsound)
@@ -133,7 +133,7 @@ impl<const N: usize> GroupedScenes<N> {
     /// assert!(scenes::GroupedScenes::<16>::new().is_sound());
     /// ```
     pub fn is_sound(&self) -> bool {
-        self.scenes.is_sound() && ffi::groups::is_sound(self.groups(), &self.words)
+        self.scenes.is_sound() && ffi::groups::is_sound(self.groups())
     }
 
     /// Joins a group. A membership that is held stays as it is. Group 0 cannot be joined, and where all memberships are taken no new one can.
@@ -150,7 +150,7 @@ impl<const N: usize> GroupedScenes<N> {
     /// # Ok::<(), Error>(())
     /// ```
     pub fn join(&mut self, key: GroupKey) -> Result<(), Error> {
-        let joined = ffi::groups::join(self.groups(), &mut self.words, key);
+        let joined = ffi::groups::join(self.both().2, key);
         self.held = joined.state.held;
         if joined.status == 0 {
             Ok(())
@@ -162,15 +162,14 @@ impl<const N: usize> GroupedScenes<N> {
     /// Leaves a group: the membership goes, and its scenes and records fare as by [`remove_all`](GroupedScenes::remove_all). Group 0 cannot be
     /// left, and a membership that is not held is [`Error::NotFound`]. That something is to be saved is said of the scenes alone.
     pub fn leave(&mut self, key: GroupKey) -> Result<Done, Error> {
-        let groups = self.groups();
-        let (state, lent) = self.scenes.lend();
-        let left = ffi::groups::leave(state, lent, groups, &mut self.words, key);
-        self.both(left)
+        let (state, lent, groups) = self.both();
+        let left = ffi::groups::leave(state, lent, groups, key);
+        self.kept(left)
     }
 
     /// Whether a membership is held: no for group 0.
     pub fn is_member(&self, key: GroupKey) -> Result<bool, Error> {
-        let read = ffi::groups::is_member(self.groups(), &self.words, key);
+        let read = ffi::groups::is_member(self.groups(), key);
         if read.status == 0 {
             Ok(read.held != 0)
         } else {
@@ -180,9 +179,8 @@ impl<const N: usize> GroupedScenes<N> {
 
     /// [`Scenes::add`], asking.
     pub fn add(&mut self, key: SceneKey, time: u32, pairs: &[u8], fields: &[u8]) -> Result<Done, Error> {
-        let groups = self.groups();
-        let (state, lent) = self.scenes.lend();
-        let done = ffi::groups::add(state, lent, groups, &self.words, key, time, pairs, fields);
+        let (state, lent, groups) = self.asking();
+        let done = ffi::groups::add(state, lent, groups, key, time, pairs, fields);
         self.scenes.done(done)
     }
 
@@ -199,13 +197,7 @@ impl<const N: usize> GroupedScenes<N> {
     /// assert_eq!(table.add_read(key, 1000, &fields[..13], |_, _| pair::SCENABLE), Err(Error::BadFieldSets));
     /// # Ok::<(), Error>(())
     /// ```
-    pub fn add_read(
-        &mut self,
-        key: SceneKey,
-        time: u32,
-        fields: &[u8],
-        ask: impl FnMut(u32, u32) -> u8,
-    ) -> Result<Done, Error> {
+    pub fn add_read(&mut self, key: SceneKey, time: u32, fields: &[u8], ask: impl FnMut(u32, u32) -> u8) -> Result<Done, Error> {
         match ask_pairs(fields, &mut [0; pairs_max(MAX_FIELDS)], ask) {
             Asked::Read(pairs) => self.add_answered(key, time, pairs, fields),
             Asked::Listed(pairs) => self.add(key, time, pairs, fields),
@@ -214,17 +206,15 @@ impl<const N: usize> GroupedScenes<N> {
 
     /// [`Scenes::add_answered`], asking for the membership.
     pub fn add_answered(&mut self, key: SceneKey, time: u32, pairs: &[u8], fields: &[u8]) -> Result<Done, Error> {
-        let groups = self.groups();
-        let (state, lent) = self.scenes.lend();
-        let done = ffi::groups::add_read(state, lent, groups, &self.words, key, time, pairs, fields);
+        let (state, lent, groups) = self.asking();
+        let done = ffi::groups::add_read(state, lent, groups, key, time, pairs, fields);
         self.scenes.done(done)
     }
 
     /// [`Scenes::store`], asking.
     pub fn store(&mut self, key: SceneKey, captured: &[u8]) -> Result<Stored, Error> {
-        let groups = self.groups();
-        let (state, lent) = self.scenes.lend();
-        let stored = ffi::groups::store(state, lent, groups, &self.words, key, captured);
+        let (state, lent, groups) = self.asking();
+        let stored = ffi::groups::store(state, lent, groups, key, captured);
         let ffi::Stored { state, status, save, compared } = stored;
         let Done { save } = self.scenes.done(Outcome { state, status, save })?;
         Ok(Stored { save, compared })
@@ -232,45 +222,41 @@ impl<const N: usize> GroupedScenes<N> {
 
     /// [`Scenes::view`], asking.
     pub fn view(&self, key: SceneKey) -> Result<Scene<'_>, Error> {
-        self.scenes.scene(ffi::groups::view(self.scenes.state(), self.scenes.lent(), self.groups(), &self.words, key))
+        self.scenes.scene(ffi::groups::view(self.scenes.state(), self.scenes.lent(), self.groups(), key))
     }
 
     /// [`Scenes::recall_lookup`], asking.
     pub fn recall_lookup(&self, key: SceneKey, transition: Transition) -> Result<Scene<'_>, Error> {
         let (given, time) = transition.numbers();
         let table = &self.scenes;
-        table.scene(ffi::groups::recall_lookup(table.state(), table.lent(), self.groups(), &self.words, key, given, time))
+        table.scene(ffi::groups::recall_lookup(table.state(), table.lent(), self.groups(), key, given, time))
     }
 
     /// [`Scenes::recall`], asking.
     pub fn recall(&mut self, key: SceneKey, applied: Applied) -> Result<Done, Error> {
-        let groups = self.groups();
-        let (state, lent) = self.scenes.lend();
-        let done = ffi::groups::recall(state, lent, groups, &self.words, key, applied.number());
+        let (state, lent, groups) = self.asking();
+        let done = ffi::groups::recall(state, lent, groups, key, applied.number());
         self.scenes.done(done)
     }
 
     /// [`Scenes::remove`], asking.
     pub fn remove(&mut self, key: SceneKey) -> Result<Done, Error> {
-        let groups = self.groups();
-        let (state, lent) = self.scenes.lend();
-        let done = ffi::groups::remove(state, lent, groups, &self.words, key);
+        let (state, lent, groups) = self.asking();
+        let done = ffi::groups::remove(state, lent, groups, key);
         self.scenes.done(done)
     }
 
     /// [`Scenes::remove_all`], asking. The membership stays.
     pub fn remove_all(&mut self, key: GroupKey) -> Result<Done, Error> {
-        let groups = self.groups();
-        let (state, lent) = self.scenes.lend();
-        let done = ffi::groups::remove_all(state, lent, groups, &self.words, key);
+        let (state, lent, groups) = self.asking();
+        let done = ffi::groups::remove_all(state, lent, groups, key);
         self.scenes.done(done)
     }
 
     /// [`Scenes::copy`], asking for both groups.
     pub fn copy(&mut self, request: CopyRequest) -> Result<Done, Error> {
-        let groups = self.groups();
-        let (state, lent) = self.scenes.lend();
-        let done = ffi::groups::copy(state, lent, groups, &self.words, request);
+        let (state, lent, groups) = self.asking();
+        let done = ffi::groups::copy(state, lent, groups, request);
         self.scenes.done(done)
     }
 
@@ -278,7 +264,7 @@ impl<const N: usize> GroupedScenes<N> {
     /// [`memberships`](GroupedScenes::memberships).
     pub fn get_membership<'a>(&self, key: GroupKey, ids: &'a mut [u8]) -> Result<SceneList<'a>, Error> {
         let table = &self.scenes;
-        let read = ffi::groups::get_membership(table.state(), table.lent(), self.groups(), &self.words, ids, key);
+        let read = ffi::groups::get_membership(table.state(), table.lent(), self.groups(), ids, key);
         if read.status != 0 {
             return Err(Error::of(read.status));
         }
@@ -315,16 +301,15 @@ impl<const N: usize> GroupedScenes<N> {
     /// # Ok::<(), Error>(())
     /// ```
     pub fn remove_fabric(&mut self, fabric: u8) -> Result<Done, Error> {
-        let groups = self.groups();
-        let (state, lent) = self.scenes.lend();
-        let done = ffi::groups::remove_fabric(state, lent, groups, &mut self.words, fabric);
-        self.both(done)
+        let (state, lent, groups) = self.both();
+        let done = ffi::groups::remove_fabric(state, lent, groups, fabric);
+        self.kept(done)
     }
 
     /// A factory reset: an empty table, a step of the data version, and no memberships.
     pub fn factory_reset(&mut self) -> Result<Done, Error> {
-        let done = ffi::groups::factory_reset(self.scenes.state(), self.scenes.lent(), self.groups(), &self.words);
-        self.both(done)
+        let done = ffi::groups::factory_reset(self.scenes.state(), self.scenes.lent(), self.groups());
+        self.kept(done)
     }
 
     /// [`Scenes::startup`]. The memberships stay.
@@ -366,12 +351,23 @@ impl<const N: usize> GroupedScenes<N> {
         self.scenes.load(image)
     }
 
-    pub(crate) fn groups(&self) -> GroupsState {
-        GroupsState { held: self.held }
+    pub(crate) fn groups(&self) -> Groups<'_> {
+        Groups { state: GroupsState { held: self.held }, words: &self.words }
+    }
+
+    // The table to be written, with the memberships to be read, and with both to be written.
+    fn asking(&mut self) -> (State, LentMut<'_>, Groups<'_>) {
+        let (state, lent) = self.scenes.lend();
+        (state, lent, Groups { state: GroupsState { held: self.held }, words: &self.words })
+    }
+
+    pub(crate) fn both(&mut self) -> (State, LentMut<'_>, GroupsMut<'_>) {
+        let (state, lent) = self.scenes.lend();
+        (state, lent, GroupsMut { state: GroupsState { held: self.held }, words: &mut self.words })
     }
 
     // Keeps both heads that came back.
-    fn both(&mut self, outcome: BothOutcome) -> Result<Done, Error> {
+    fn kept(&mut self, outcome: BothOutcome) -> Result<Done, Error> {
         let BothOutcome { state, groups, status, save } = outcome;
         self.held = groups.held;
         self.scenes.done(Outcome { state, status, save })

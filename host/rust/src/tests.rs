@@ -2,8 +2,8 @@
 // The digits of a key word are grouped by its parts.
 #![allow(clippy::unusual_byte_groupings, unsafe_code)]
 use crate::ffi::{
-    self, BothOutcome, Cursor, FieldBytes, GroupRead, GroupsOutcome, GroupsState, ImageSaved, InfoRead, Lent, LentMut, ListRead, Outcome, PairsRead,
-    SceneRead, State, Stored,
+    self, BothOutcome, Cursor, FieldBytes, GroupRead, GroupsOutcome, GroupsState, ImageSaved, InfoRead, Lent, LentMut, ListRead,
+    Outcome, PairsRead, SceneRead, State, Stored,
 };
 use crate::*;
 use core::mem::{offset_of, size_of};
