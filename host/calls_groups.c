@@ -262,6 +262,19 @@ static void unsound(void) {
     EXPECT(node.groups.held == 1 && words[0] == scenes_group_word(first_group) && scenes_node_is_member(&node, first_group).held);
 }
 
+/* The example of docs/INTERFACE.md. */
+static void example(void) {
+    struct scenes_key owned = {1, 1, 7, 5}, other = {2, 1, 7, 5};
+    fresh();
+    EXPECT(scenes_node_store(&node, owned, NULL, 0).status == SCENES_INVALID_COMMAND && node.groups.held == 0);
+    EXPECT(scenes_node_join(&node, member(1, 7)).status == SCENES_SUCCESS && node.groups.held == 1);
+    EXPECT(scenes_node_store(&node, owned, NULL, 0).save && node.table.state.entries == 1);
+    EXPECT(scenes_node_join(&node, member(1, 7)).status == SCENES_SUCCESS && node.groups.held == 1);
+    EXPECT(scenes_node_store(&node, other, NULL, 0).status == SCENES_INVALID_COMMAND && node.table.state.entries == 1);
+    EXPECT(scenes_node_leave(&node, member(1, 7)).save && node.groups.held == 0 && node.table.state.entries == 0);
+    EXPECT(scenes_node_leave(&node, member(1, 7)).status == SCENES_NOT_FOUND);
+}
+
 static void group_words(void) {
     struct scenes_group_key back = scenes_group_of_word(scenes_group_word(first_group));
     EXPECT(back.fabric == 0x12 && back.endpoint == 0x3456 && back.group == 0x789A && scenes_group_word(second_group) == 0x3456789ABC00);
@@ -278,6 +291,7 @@ int main(void) {
     all_taken();
     raw_words();
     unsound();
+    example();
     group_words();
     return failures != 0;
 }
