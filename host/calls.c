@@ -441,7 +441,7 @@ static void texts(void) {
     int named = 0;
     for (int status = 0; status <= UINT8_MAX; status++)
         named += strcmp(scenes_status_text((uint8_t)status), none) != 0;
-    EXPECT(named == 16 && strcmp(scenes_status_text(SCENES_NOT_FOUND), "no such scene") == 0);
+    EXPECT(named == 17 && strcmp(scenes_status_text(SCENES_NOT_FOUND), "no such scene or membership") == 0);
 }
 
 int main(void) {

@@ -1,6 +1,7 @@
 /* The scene table of Scenes Management, for hosts in C: the calls of libhost.a, which `rt staticlib host` builds, and three on raw field
  * bytes, of libhost_fields.a, which `rt staticlib host_fields` builds. A host that lists the pairs of its adds itself needs the first alone.
- * scenes_unchecked.h has the calls of a table without the test that answers 6, for a host whose table nobody else can write.
+ * scenes_unchecked.h has the calls of a table without the test that answers 6, for a host whose table nobody else can write; scenes_groups.h has
+ * memberships that are held beside the table, and the commands that ask them, for a host without a group cluster.
  *
  * A table is a head, which every call takes by value and hands back in its answer, and four arrays that the host owns and lends to
  * each call as a pointer and a count of elements:
@@ -90,21 +91,22 @@ extern "C" {
 /* What a call answers in `status`: a status of Matter .. */
 #define SCENES_SUCCESS 0
 #define SCENES_INVALID_COMMAND 0x85    /* not a member of the group; an attribute that is not scenable */
-#define SCENES_CONSTRAINT_ERROR 0x87   /* scene 0 or 255; a time above 60,000,000 */
+#define SCENES_CONSTRAINT_ERROR 0x87   /* scene 0 or 255; a time above 60,000,000; group 0 joined or left */
 #define SCENES_INSUFFICIENT_SPACE 0x89 /* fields over 128 bytes; no place; a copy, in share mode any new scene, with nothing remaining */
-#define SCENES_NOT_FOUND 0x8B          /* no such scene */
+#define SCENES_NOT_FOUND 0x8B          /* no such scene, or no such membership */
 /* .. or a fault. */
 #define SCENES_NO_FABRIC 1         /* fabric 0 */
 #define SCENES_MEMBERSHIP_FAILED 2 /* the host could not tell */
 #define SCENES_CAPTURE_TOO_LONG 3  /* captured bytes over 127 */
 #define SCENES_APPLY_FAILED 4      /* the host could not apply a recalled scene */
 #define SCENES_SINGLE_ELEMENT 5    /* info asked for one list element */
-#define SCENES_UNSOUND 6           /* the head or the lent arrays are not those of a table */
+#define SCENES_UNSOUND 6           /* a head or the lent arrays are not those of a table, or of memberships */
 #define SCENES_BAD_PAIR 7          /* a pair byte above 2 */
 #define SCENES_BUFFER_TOO_SHORT 8  /* the buffer is shorter than the scene list, than the image or than the list of pairs */
 #define SCENES_BAD_IMAGE 9         /* an image that is none, or one of a larger table */
 #define SCENES_CLASHING_IMAGE 10   /* an image with a key twice, with two records of a fabric, or with scene 0 or 255 */
 #define SCENES_BAD_FIELD_SETS 11   /* field bytes that are no list of field sets, or another number of pairs than of pair bytes */
+#define SCENES_MEMBERSHIPS_FULL 12 /* all 256 memberships are taken: an answer of scenes_groups.h alone */
 
 #define SCENES_MAX_SCENES 1024    /* the largest N */
 #define SCENES_MAX_FIELDS 128     /* the most field bytes of a scene */
@@ -471,16 +473,17 @@ static inline const char *scenes_status_text(uint8_t status) {
     case SCENES_CAPTURE_TOO_LONG: return "captured bytes over 127";
     case SCENES_APPLY_FAILED: return "the scene could not be applied";
     case SCENES_SINGLE_ELEMENT: return "one list element was asked for";
-    case SCENES_UNSOUND: return "the table is not sound";
+    case SCENES_UNSOUND: return "the table or the memberships are not sound";
     case SCENES_BAD_PAIR: return "a pair byte above 2";
     case SCENES_BUFFER_TOO_SHORT: return "the buffer is too short";
     case SCENES_BAD_IMAGE: return "no image of a table of this size";
     case SCENES_CLASHING_IMAGE: return "an image that contradicts itself";
     case SCENES_BAD_FIELD_SETS: return "no field sets, or not a pair byte for each pair";
+    case SCENES_MEMBERSHIPS_FULL: return "all memberships are taken";
     case SCENES_INVALID_COMMAND: return "not in the group, or not scenable";
-    case SCENES_CONSTRAINT_ERROR: return "a scene id or a time out of range";
+    case SCENES_CONSTRAINT_ERROR: return "a scene id or a time out of range, or group 0 joined or left";
     case SCENES_INSUFFICIENT_SPACE: return "no room";
-    case SCENES_NOT_FOUND: return "no such scene";
+    case SCENES_NOT_FOUND: return "no such scene or membership";
     default: return "no status of the table";
     }
 }
@@ -656,8 +659,7 @@ SCENES_KEEP static inline struct scenes_outcome scenes_table_fail_safe_expiry(st
     return scenes_table_keep(t, scenes_fail_safe_expiry(SCENES_LENT(t)));
 }
 
-/* The other macros stay: scenes_unchecked.h declares its calls by them. */
-#undef SCENES_ASSERT
+/* The macros stay: scenes_unchecked.h and scenes_groups.h declare their calls by them. */
 
 #ifdef __cplusplus
 }

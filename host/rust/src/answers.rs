@@ -15,7 +15,7 @@ pub enum Error {
     ApplyFailed = 4,
     /// Info asked for one list element.
     SingleElement = 5,
-    /// The head or the memory is not that of a table.
+    /// A head or the memory is not that of a table, or of memberships.
     Unsound = 6,
     /// A pair byte above 2.
     BadPair = 7,
@@ -27,18 +27,20 @@ pub enum Error {
     ClashingImage = 10,
     /// Field bytes that are no list of extension field sets, or another number of pairs than of pair bytes.
     BadFieldSets = 11,
+    /// All memberships are taken, and the one that is to be joined is new.
+    MembershipsFull = 12,
     /// Not a member of the group; an attribute that is not scenable. A status of Matter, as the three below.
     InvalidCommand = 0x85,
-    /// Scene 0 or 255; a time above 60,000,000.
+    /// Scene 0 or 255; a time above 60,000,000; group 0 joined or left.
     ConstraintError = 0x87,
     /// Fields over 128 bytes; no place; a copy, in share mode any new scene, with nothing remaining.
     InsufficientSpace = 0x89,
-    /// No such scene.
+    /// No such scene, or no such membership.
     NotFound = 0x8B,
 }
 
 impl Error {
-    const ALL: [Error; 15] = [
+    const ALL: [Error; 16] = [
         Error::NoFabric,
         Error::MembershipFailed,
         Error::CaptureTooLong,
@@ -50,6 +52,7 @@ impl Error {
         Error::BadImage,
         Error::ClashingImage,
         Error::BadFieldSets,
+        Error::MembershipsFull,
         Error::InvalidCommand,
         Error::ConstraintError,
         Error::InsufficientSpace,
@@ -97,16 +100,17 @@ impl fmt::Display for Error {
             Error::CaptureTooLong => "captured bytes over 127",
             Error::ApplyFailed => "the scene could not be applied",
             Error::SingleElement => "one list element was asked for",
-            Error::Unsound => "the table is not sound",
+            Error::Unsound => "the table or the memberships are not sound",
             Error::BadPair => "a pair byte above 2",
             Error::BufferTooShort => "the buffer is too short",
             Error::BadImage => "no image of a table of this size",
             Error::ClashingImage => "an image that contradicts itself",
             Error::BadFieldSets => "no field sets, or not a pair byte for each pair",
+            Error::MembershipsFull => "all memberships are taken",
             Error::InvalidCommand => "not in the group, or not scenable",
-            Error::ConstraintError => "a scene id or a time out of range",
+            Error::ConstraintError => "a scene id or a time out of range, or group 0 joined or left",
             Error::InsufficientSpace => "no room",
-            Error::NotFound => "no such scene",
+            Error::NotFound => "no such scene or membership",
         })
     }
 }

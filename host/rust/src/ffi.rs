@@ -1,5 +1,5 @@
-//! The functions of libhost.a, libhost_fields.a and libhost_unchecked.a, declared as host/scenes.h and host/scenes_unchecked.h declare them,
-//! each behind a function of Rust: a safe one, but for the calls that ask that the table is sound.
+//! The functions of libhost.a, libhost_fields.a, libhost_unchecked.a and libhost_groups.a, declared as host/scenes.h, host/scenes_unchecked.h
+//! and host/scenes_groups.h declare them, each behind a function of Rust: a safe one, but for the calls that ask that the table is sound.
 //!
 //! What the library asks of its callers across the boundary is that a pointer is valid for its count, that no two arrays overlap and that
 //! nobody else touches them meanwhile: slices and exclusive references have all that.
@@ -108,6 +108,36 @@ pub(crate) struct PairsRead {
     pub len: usize,
 }
 
+/// The head of memberships.
+#[repr(C)]
+#[derive(Clone, Copy, Debug, PartialEq, Eq)]
+pub(crate) struct GroupsState {
+    pub held: usize,
+}
+
+#[repr(C)]
+#[derive(Clone, Copy, Debug, PartialEq, Eq)]
+pub(crate) struct GroupsOutcome {
+    pub status: u8,
+    pub state: GroupsState,
+}
+
+#[repr(C)]
+#[derive(Clone, Copy, Debug, PartialEq, Eq)]
+pub(crate) struct GroupRead {
+    pub status: u8,
+    pub held: u8,
+}
+
+#[repr(C)]
+#[derive(Clone, Copy, Debug, PartialEq, Eq)]
+pub(crate) struct BothOutcome {
+    pub state: State,
+    pub groups: GroupsState,
+    pub status: u8,
+    pub save: u8,
+}
+
 /// The lent memory, to be read.
 #[derive(Clone, Copy)]
 pub(crate) struct Lent<'a> {
@@ -123,6 +153,19 @@ pub(crate) struct LentMut<'a> {
     pub times: &'a mut [u32],
     pub fields: &'a mut [u8],
     pub records: &'a mut [u64],
+}
+
+/// Lent memberships with their head, to be read.
+#[derive(Clone, Copy)]
+pub(crate) struct Groups<'a> {
+    pub state: GroupsState,
+    pub words: &'a [u64],
+}
+
+/// The same, to be written.
+pub(crate) struct GroupsMut<'a> {
+    pub state: GroupsState,
+    pub words: &'a mut [u64],
 }
 
 extern "C" {
@@ -281,5 +324,96 @@ calls! {
         fn remove_fabric(fabric: u8) -> Outcome = scenes_remove_fabric, scenes_remove_fabric_unchecked(fabric => u8);
         fn load_image(image: &[u8]) -> Outcome
             = scenes_load_image, scenes_load_image_unchecked(image.as_ptr() => *const u8, image.len() => usize);
+    }
+}
+
+extern "C" {
+    fn scenes_groups_new() -> GroupsState;
+    fn scenes_groups_is_sound(groups: GroupsState, words: *const u64, words_len: usize) -> u8;
+    fn scenes_join(groups: GroupsState, words: *mut u64, words_len: usize, key: GroupKey) -> GroupsOutcome;
+    fn scenes_is_member(groups: GroupsState, words: *const u64, words_len: usize, key: GroupKey) -> GroupRead;
+}
+
+// The calls of memberships and of a table beside them: all of host/scenes_groups.h. Each tests what it is lent. SAFETY: as above. The words are
+// borrowed exclusively where they are written.
+macro_rules! group_calls {
+    ($($lent:ident, $at:ident, $p:ident, $groups:ident, $words_at:ident, $words_p:ident: {
+        $(fn $name:ident($($arg:ident: $ty:ty),*) -> $answer:ty = $symbol:ident($($passed:expr => $as:ty),*);)*
+    })*) => {
+        /// The calls that are lent memberships.
+        #[allow(dead_code)]
+        pub(crate) mod groups {
+            use super::*;
+
+            /// The head of no memberships.
+            pub(crate) fn new() -> GroupsState {
+                // SAFETY: nothing goes in, and any bytes are a head.
+                unsafe { scenes_groups_new() }
+            }
+
+            /// Whether memberships are sound.
+            pub(crate) fn is_sound(groups: Groups<'_>) -> bool {
+                unsafe { scenes_groups_is_sound(groups.state, groups.words.as_ptr(), groups.words.len()) != 0 }
+            }
+
+            /// Joins a group.
+            pub(crate) fn join(groups: GroupsMut<'_>, key: GroupKey) -> GroupsOutcome {
+                unsafe { scenes_join(groups.state, groups.words.as_mut_ptr(), groups.words.len(), key) }
+            }
+
+            /// Whether a membership is held.
+            pub(crate) fn is_member(groups: Groups<'_>, key: GroupKey) -> GroupRead {
+                unsafe { scenes_is_member(groups.state, groups.words.as_ptr(), groups.words.len(), key) }
+            }
+
+            $($(declared! { $p: $symbol(GroupsState, $words_p!(u64), usize $(, $as)*) -> $answer }
+
+            #[inline]
+            pub(crate) fn $name(state: State, lent: $lent<'_>, groups: $groups<'_>, $($arg: $ty),*) -> $answer {
+                let (k, t, f, r, w) = (lent.keys, lent.times, lent.fields, lent.records, groups.words);
+                unsafe {
+                    $symbol(
+                        state, k.$at(), k.len(), t.$at(), t.len(), f.$at(), f.len(), r.$at(), r.len(),
+                        groups.state, w.$words_at(), w.len(), $($passed),*
+                    )
+                }
+            })*)*
+        }
+    };
+}
+
+group_calls! {
+    Lent, as_ptr, read, Groups, as_ptr, read: {
+        fn view(key: SceneKey) -> SceneRead = scenes_view_asking(key => SceneKey);
+        fn recall_lookup(key: SceneKey, given: u8, time: u32) -> SceneRead
+            = scenes_recall_lookup_asking(key => SceneKey, given => u8, time => u32);
+        fn get_membership(ids: &mut [u8], key: GroupKey) -> ListRead
+            = scenes_get_membership_asking(ids.as_mut_ptr() => *mut u8, ids.len() => usize, key => GroupKey);
+        fn factory_reset() -> BothOutcome = scenes_factory_reset_and_groups();
+    }
+
+    // A recall writes the records alone; for it the header has the other three as constant.
+    LentMut, as_mut_ptr, write, Groups, as_ptr, read: {
+        fn add(key: SceneKey, time: u32, pairs: &[u8], ext: &[u8]) -> Outcome
+            = scenes_add_asking(
+                key => SceneKey, time => u32,
+                pairs.as_ptr() => *const u8, pairs.len() => usize, ext.as_ptr() => *const u8, ext.len() => usize
+            );
+        fn add_read(key: SceneKey, time: u32, pairs: &[u8], ext: &[u8]) -> Outcome
+            = scenes_add_read_asking(
+                key => SceneKey, time => u32,
+                pairs.as_ptr() => *const u8, pairs.len() => usize, ext.as_ptr() => *const u8, ext.len() => usize
+            );
+        fn store(key: SceneKey, captured: &[u8]) -> Stored
+            = scenes_store_asking(key => SceneKey, captured.as_ptr() => *const u8, captured.len() => usize);
+        fn recall(key: SceneKey, applied: u8) -> Outcome = scenes_recall_asking(key => SceneKey, applied => u8);
+        fn remove(key: SceneKey) -> Outcome = scenes_remove_asking(key => SceneKey);
+        fn remove_all(key: GroupKey) -> Outcome = scenes_remove_all_asking(key => GroupKey);
+        fn copy(request: CopyRequest) -> Outcome = scenes_copy_asking(request => CopyRequest);
+    }
+
+    LentMut, as_mut_ptr, write, GroupsMut, as_mut_ptr, write: {
+        fn leave(key: GroupKey) -> BothOutcome = scenes_leave(key => GroupKey);
+        fn remove_fabric(fabric: u8) -> BothOutcome = scenes_remove_fabric_and_groups(fabric => u8);
     }
 }

@@ -1,6 +1,8 @@
 //! Raw field bytes: their clusters and attributes, item by item, and their pairs.
 use crate::answers::Error;
 use crate::ffi::{self, Cursor};
+use crate::requests::pair;
+use crate::table::MAX_FIELDS;
 use core::iter::FusedIterator;
 
 /// No so many field bytes hold more pairs: each takes five bytes at least.
@@ -10,6 +12,40 @@ use core::iter::FusedIterator;
 /// ```
 pub const fn pairs_max(bytes: usize) -> usize {
     bytes / 5
+}
+
+/// What an add by raw field bytes hands over, once its pairs are read and each was asked about.
+pub(crate) enum Asked<'a> {
+    /// The bytes, and these pair bytes for their pairs.
+    Read(&'a [u8]),
+    /// The bytes, and these pair bytes by themselves.
+    Listed(&'a [u8]),
+}
+
+/// Asks about each pair, in order, and writes the answers to a buffer that is long enough for the fields of a scene. Of bytes that are no list
+/// of field sets nothing is asked: the library refuses them, whatever the pair bytes.
+pub(crate) fn ask_pairs<'a>(
+    fields: &[u8],
+    buffer: &'a mut [u8; pairs_max(MAX_FIELDS)],
+    mut ask: impl FnMut(u32, u32) -> u8,
+) -> Asked<'a> {
+    let Ok(count) = field_pairs(fields).try_fold(0, |n: usize, pair| pair.map(|_| n + 1)) else {
+        return Asked::Read(&[]);
+    };
+    let asked = field_pairs(fields).flatten().map(|(cluster, attribute)| ask(cluster, attribute));
+    if buffer.len() < count {
+        // So many pairs take more bytes than a scene has, and the add is refused. It is the add with listed pairs, of whose bytes the
+        // first that is neither 1 nor 2 decides.
+        let refused = asked.filter(|&byte| byte != pair::SCENABLE && byte != pair::CLUSTER_UNKNOWN);
+        let Some(first) = refused.reduce(|first, _| first) else {
+            return Asked::Listed(&[]);
+        };
+        buffer[0] = first;
+        return Asked::Listed(&buffer[..1]);
+    }
+    let pairs = buffer.get_mut(..count).unwrap_or_default();
+    pairs.iter_mut().zip(asked).for_each(|(byte, answer)| *byte = answer);
+    Asked::Read(pairs)
 }
 
 /// What stands in field bytes: extension field sets, each a cluster and then its attributes.

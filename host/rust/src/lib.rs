@@ -24,6 +24,8 @@
 //!
 //! A table in share mode, in which a fabric's share limits every new scene, is made by [`Scenes::with_modes`].
 //!
+//! A host without a group cluster has the memberships held beside the table: [`GroupedScenes`] owns both, and its commands take no membership.
+//!
 //! [`Scenes`] begins sound, alone writes its memory, and so never has it tested: that each call leaves a sound table sound is proved. Memory
 //! that comes from outside is tested, by [`Scenes::from_memory`] and [`Scenes::load`].
 //!
@@ -35,6 +37,9 @@
 mod answers;
 mod ffi;
 mod fields;
+#[cfg(test)]
+mod group_tests;
+mod groups;
 mod requests;
 mod table;
 #[cfg(test)]
@@ -42,5 +47,6 @@ mod tests;
 
 pub use answers::{Done, Error, InfoRow, Scene, SceneList, Stored};
 pub use fields::{field_items, field_pairs, list_pairs, pair_of_word, pairs_max, FieldItem, FieldItems, FieldPairs};
+pub use groups::{GroupedScenes, MAX_MEMBERSHIPS};
 pub use requests::{modes, pair, Applied, CopyRequest, GroupKey, GroupScene, Membership, SceneKey, Transition};
 pub use table::{image_max, library_version, Memory, Scenes, MAX_FIELDS, MAX_REMAINING, MAX_SCENES, MAX_TIME, STRIDE, VERSION};

@@ -5,8 +5,8 @@ use core::sync::atomic::{compiler_fence, Ordering};
 
 use crate::answers::{Done, Error, InfoRow, Scene, SceneList, Stored};
 use crate::ffi::{self, Lent, LentMut, Outcome, SceneRead, State};
-use crate::fields::{field_pairs, pairs_max};
-use crate::requests::{pair, Applied, CopyRequest, GroupKey, Membership, SceneKey, Transition};
+use crate::fields::{ask_pairs, pairs_max, Asked};
+use crate::requests::{Applied, CopyRequest, GroupKey, Membership, SceneKey, Transition};
 
 /// The version of the interface that this crate is for. It steps whenever a struct, an answer or a call of the library changes.
 pub const VERSION: u32 = 8;
@@ -78,7 +78,8 @@ pub struct Memory<const N: usize> {
 // INVARIANT: the table is sound, which is the condition of an unchecked call. It begins so: `empty` has a new head over arrays of N places, N
 // at most 1,024 (`new-sound` of crates/observation/specs/Owned.antt), and `from_memory` tests what it is given. And from a sound start the
 // condition holds before every call of any list, loads among them and whatever is answered, if the head that comes back is kept, as `done`
-// does (`stays-sound`, there). Nothing else writes: `memory` is private, and `memory()` lends it to be read.
+// does (`stays-sound`, there). Nothing else writes: `memory` is private, `memory()` lends it to be read, and `GroupedScenes` says the same of
+// its own calls.
 #[derive(Clone, Debug, PartialEq, Eq)]
 pub struct Scenes<const N: usize> {
     pub(crate) memory: Memory<N>,
@@ -282,27 +283,16 @@ impl<const N: usize> Scenes<N> {
         time: u32,
         member: Membership,
         fields: &[u8],
-        mut ask: impl FnMut(u32, u32) -> u8,
+        ask: impl FnMut(u32, u32) -> u8,
     ) -> Result<Done, Error> {
-        // What is no list of field sets the library refuses, whatever the pair bytes.
-        let Ok(count) = field_pairs(fields).try_fold(0, |n: usize, pair| pair.map(|_| n + 1)) else {
-            return self.add_answered(key, time, member, &[], fields);
-        };
-        let asked = field_pairs(fields).flatten().map(|(cluster, attribute)| ask(cluster, attribute));
-        let mut bytes = [0; pairs_max(MAX_FIELDS)];
-        let Some(pairs) = bytes.get_mut(..count) else {
-            // So many pairs take more bytes than a scene has, and the add is refused. It is the add with listed pairs, of whose bytes the
-            // first that is neither 1 nor 2 decides.
-            let refused = asked.filter(|&byte| byte != pair::SCENABLE && byte != pair::CLUSTER_UNKNOWN);
-            let first = refused.reduce(|first, _| first);
-            return self.add(key, time, member, first.as_slice(), fields);
-        };
-        pairs.iter_mut().zip(asked).for_each(|(byte, answer)| *byte = answer);
-        self.add_answered(key, time, member, pairs, fields)
+        match ask_pairs(fields, &mut [0; pairs_max(MAX_FIELDS)], ask) {
+            Asked::Read(pairs) => self.add_answered(key, time, member, pairs, fields),
+            Asked::Listed(pairs) => self.add(key, time, member, pairs, fields),
+        }
     }
 
     /// Adds a scene by its raw field bytes, as [`add_read`](Scenes::add_read) does, for a host that has asked before: `pairs` has a byte of
-    /// [`pair`](crate::pair) for each of [`field_pairs`].
+    /// [`pair`](crate::pair) for each of [`field_pairs`](crate::field_pairs).
     ///
     /// ```
     /// use scenes::{pair, Error, Membership, SceneKey, Scenes};
@@ -603,7 +593,7 @@ impl<const N: usize> Scenes<N> {
     }
 
     // A refusal has a head to be kept too: a whole-group copy that ran out has changed it.
-    fn done(&mut self, outcome: Outcome) -> Result<Done, Error> {
+    pub(crate) fn done(&mut self, outcome: Outcome) -> Result<Done, Error> {
         self.keep(outcome.state);
         if outcome.status == 0 {
             Ok(Done { save: outcome.save != 0 })
@@ -612,7 +602,7 @@ impl<const N: usize> Scenes<N> {
         }
     }
 
-    fn scene(&self, read: SceneRead) -> Result<Scene<'_>, Error> {
+    pub(crate) fn scene(&self, read: SceneRead) -> Result<Scene<'_>, Error> {
         if read.status != 0 {
             return Err(Error::of(read.status));
         }

@@ -2,12 +2,13 @@
 // The digits of a key word are grouped by its parts.
 #![allow(clippy::unusual_byte_groupings, unsafe_code)]
 use crate::ffi::{
-    self, Cursor, FieldBytes, ImageSaved, InfoRead, Lent, LentMut, ListRead, Outcome, PairsRead, SceneRead, State, Stored,
+    self, BothOutcome, Cursor, FieldBytes, GroupRead, GroupsOutcome, GroupsState, ImageSaved, InfoRead, Lent, LentMut, ListRead,
+    Outcome, PairsRead, SceneRead, State, Stored,
 };
 use crate::*;
 use core::mem::{offset_of, size_of};
 
-// The numbers are those that host/scenes.h holds the C compiler to.
+// The numbers are those that host/scenes.h and host/scenes_groups.h hold the C compiler to.
 #[test]
 fn layouts_are_those_of_the_header() {
     assert_eq!((size_of::<State>(), offset_of!(State, size), offset_of!(State, entries)), (32, 0, 8));
@@ -36,6 +37,11 @@ fn layouts_are_those_of_the_header() {
     assert_eq!((size_of::<ffi::FieldItem>(), offset_of!(ffi::FieldItem, kind)), (32, 0));
     assert_eq!((offset_of!(ffi::FieldItem, number), offset_of!(ffi::FieldItem, cursor)), (4, 8));
     assert_eq!((size_of::<PairsRead>(), offset_of!(PairsRead, status), offset_of!(PairsRead, len)), (16, 0, 8));
+    assert_eq!((size_of::<GroupsState>(), offset_of!(GroupsState, held)), (8, 0));
+    assert_eq!((size_of::<GroupsOutcome>(), offset_of!(GroupsOutcome, status), offset_of!(GroupsOutcome, state)), (16, 0, 8));
+    assert_eq!((size_of::<GroupRead>(), offset_of!(GroupRead, status), offset_of!(GroupRead, held)), (2, 0, 1));
+    assert_eq!((size_of::<BothOutcome>(), offset_of!(BothOutcome, state), offset_of!(BothOutcome, groups)), (48, 0, 32));
+    assert_eq!((offset_of!(BothOutcome, status), offset_of!(BothOutcome, save)), (40, 41));
 }
 
 #[test]
@@ -205,7 +211,7 @@ fn every_cursor_is_answered() {
 }
 
 // A set of cluster 7 with so many pairs.
-fn pairs_of_seven(count: usize) -> Vec<u8> {
+pub(crate) fn pairs_of_seven(count: usize) -> Vec<u8> {
     [&b"\x15\x24\x00\x07\x36\x01"[..], &b"\x15\x24\x00\x01\x18".repeat(count), b"\x18\x18\x18"].concat()
 }
 
@@ -332,10 +338,10 @@ fn a_damaged_table_is_refused_by_every_tested_call() {
 }
 
 // Numbers below a bound, the same at every run.
-struct Numbers(u64);
+pub(crate) struct Numbers(pub(crate) u64);
 
 impl Numbers {
-    fn below(&mut self, bound: u64) -> u64 {
+    pub(crate) fn below(&mut self, bound: u64) -> u64 {
         self.0 = self.0.wrapping_mul(6_364_136_223_846_793_005).wrapping_add(1_442_695_040_888_963_407);
         (self.0 >> 33) % bound
     }
@@ -414,7 +420,7 @@ fn unchecked_calls_answer_as_the_tested_ones() {
 
 #[test]
 fn refusals_have_their_numbers() {
-    let numbers = [1, 2, 3, 4, 5, 6, 7, 8, 9, 10, 11, 0x85, 0x87, 0x89, 0x8B];
+    let numbers = [1, 2, 3, 4, 5, 6, 7, 8, 9, 10, 11, 12, 0x85, 0x87, 0x89, 0x8B];
     for number in numbers {
         assert_eq!(Error::of(number).number(), number);
     }
