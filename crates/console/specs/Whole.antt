@@ -12,7 +12,8 @@ use Rattle.script_machine.specs.declared.Machine.{Machine}
 use Rattle.script_machine.specs.Machines.{counted}
 use Rattle.script.specs.Running.{session, runLine}
 
--- no answer has more bytes: a table as it stands, of 1,024 entries with 128 field bytes each and 1,024 records, has the most
+-- no answer has more bytes: a table as it stands, of 1,024 entries with 128 field bytes each, 1,024 records
+-- and 256 memberships, has the most
 abbrev pub longest : ℕ
 longest = 488862
 
@@ -25,9 +26,9 @@ abbrev pub mostHeld : ℕ
 mostHeld = 0x10000
 
 -- what the line is answered whose first bytes the buffer holds, on an output: one that fills the buffer is too long
-abbrev pub heldAnswer : Machine → List ℕ → List ℕ → List ℕ → List ℕ → List ℕ → List ℕ → ℕ → Sheet → Sheet
-heldAnswer m keys times fields records buffer line held s =
-    cond (ltb held (length line)) (runLine (session (counted m) keys times fields records buffer (take held line) s) .output)
+abbrev pub heldAnswer : Machine → List ℕ → List ℕ → List ℕ → List ℕ → List ℕ → List ℕ → List ℕ → ℕ → Sheet → Sheet
+heldAnswer m keys times fields records words buffer line held s =
+    cond (ltb held (length line)) (runLine (session (counted m) keys times fields records words buffer (take held line) s) .output)
     (writes (errorLine (counted m .lines) TooLong) s)
 
 -- an answer is one text, on whatever output; and it stands, with every byte, behind what the buffer held

@@ -5,7 +5,7 @@ use script_machine::Machine;
 use script_machine::Ran;
 ghost use Prim.Native.Nat.{_+_, _≤_};
 ghost use lib.ListN.{length};
-ghost use Rattle.words.specs.Constants.{maxScenes};
+ghost use Rattle.words.specs.Constants.{maxScenes, maxMemberships};
 ghost use Rattle.script_lines.specs.Lines.{mostImage};
 ghost use Rattle.console.specs.Whole.{longest, lineRoom, mostHeld, heldAnswer, Whole};
 
@@ -55,6 +55,7 @@ fn run_held(
     times: &mut [u32],
     fields: &mut [u8],
     records: &mut [u64],
+    words: &mut [u64],
     buffer: &mut [u8],
     line: &mut [u8],
     held: usize,
@@ -63,12 +64,13 @@ fn run_held(
 ) -> Ran
     requires { ⌜ length (now keys) ≤ maxScenes ⌝ }
     requires { ⌜ length (now records) ≤ maxScenes ⌝ }
+    requires { ⌜ length (now words) ≤ maxMemberships ⌝ }
     requires { ⌜ length (now buffer) ≤ mostImage ⌝ }
     requires { ⌜ length (now line) ≤ lineRoom ⌝ }
     requires { ⌜ at + longest ≤ length (now out) ⌝ }
     ensures { λ r.
         let answer = heldAnswer machine (now (keys .entry)) (now (times .entry)) (now (fields .entry)) (now (records .entry))
-        (now (buffer .entry)) (now (line .entry)) held in
+        (now (words .entry)) (now (buffer .entry)) (now (line .entry)) held in
         ⌜ Whole answer (now (out .entry)) at (now (out .exit)) (r .at) ⌝ }
 {
     if held < line.len() {
@@ -78,6 +80,7 @@ fn run_held(
             times,
             fields,
             records,
+            words,
             buffer,
             &mut line[..held],
             out,
@@ -94,6 +97,7 @@ fn step(
     times: &mut [u32],
     fields: &mut [u8],
     records: &mut [u64],
+    words: &mut [u64],
     buffer: &mut [u8],
     line: &mut [u8],
     held: usize,
@@ -102,6 +106,7 @@ fn step(
 ) -> Stepped
     requires { ⌜ length (now keys) ≤ maxScenes ⌝ }
     requires { ⌜ length (now records) ≤ maxScenes ⌝ }
+    requires { ⌜ length (now words) ≤ maxMemberships ⌝ }
     requires { ⌜ length (now buffer) ≤ mostImage ⌝ }
     requires { ⌜ length (now line) ≤ lineRoom ⌝ }
     requires { ⌜ at ≤ mostHeld ⌝ }
@@ -114,6 +119,7 @@ fn step(
         times,
         fields,
         records,
+        words,
         buffer,
         line,
         held,
@@ -143,6 +149,7 @@ fn feed(
     times: &mut [u32],
     fields: &mut [u8],
     records: &mut [u64],
+    words: &mut [u64],
     buffer: &mut [u8],
     line: &mut [u8],
     before: usize,
@@ -151,6 +158,7 @@ fn feed(
 ) -> Fed
     requires { ⌜ length (now keys) ≤ maxScenes ⌝ }
     requires { ⌜ length (now records) ≤ maxScenes ⌝ }
+    requires { ⌜ length (now words) ≤ maxMemberships ⌝ }
     requires { ⌜ length (now buffer) ≤ mostImage ⌝ }
     requires { ⌜ length (now line) ≤ lineRoom ⌝ }
     requires { ⌜ mostHeld + longest ≤ length (now out) ⌝ }
@@ -164,7 +172,19 @@ fn feed(
         from = got.next;
         held = got.held;
         if got.ended {
-            let done = step(m, keys, times, fields, records, buffer, line, held, out, at);
+            let done = step(
+                m,
+                keys,
+                times,
+                fields,
+                records,
+                words,
+                buffer,
+                line,
+                held,
+                out,
+                at,
+            );
             m = done.machine;
             at = done.at;
             takes = done.open;
@@ -221,6 +241,7 @@ fn run(
     times: &mut [u32],
     fields: &mut [u8],
     records: &mut [u64],
+    words: &mut [u64],
     buffer: &mut [u8],
     line: &mut [u8],
     chunk: &mut [u8],
@@ -228,6 +249,7 @@ fn run(
 )
     requires { ⌜ length (now keys) ≤ maxScenes ⌝ }
     requires { ⌜ length (now records) ≤ maxScenes ⌝ }
+    requires { ⌜ length (now words) ≤ maxMemberships ⌝ }
     requires { ⌜ length (now buffer) ≤ mostImage ⌝ }
     requires { ⌜ length (now line) ≤ lineRoom ⌝ }
 {
@@ -248,6 +270,7 @@ fn run(
             times,
             fields,
             records,
+            words,
             buffer,
             line,
             held,
@@ -272,10 +295,12 @@ fn buffered(
     times: &mut [u32],
     fields: &mut [u8],
     records: &mut [u64],
+    words: &mut [u64],
     buffer: &mut [u8],
 )
     requires { ⌜ length (now keys) ≤ maxScenes ⌝ }
     requires { ⌜ length (now records) ≤ maxScenes ⌝ }
+    requires { ⌜ length (now words) ≤ maxMemberships ⌝ }
     requires { ⌜ length (now buffer) ≤ mostImage ⌝ }
 {
     let mut line = [0u8; LINE];
@@ -287,6 +312,7 @@ fn buffered(
         times,
         fields,
         records,
+        words,
         buffer,
         &mut line,
         &mut chunk,
@@ -301,6 +327,7 @@ pub fn bench() {
     let mut times = [0u32; 256];
     let mut fields = [0u8; 33_024];
     let mut records = [0u64; 256];
+    let mut words = [0u64; 256];
     let mut buffer = [0u8; 256];
     buffered(
         Machine::new(false),
@@ -308,6 +335,7 @@ pub fn bench() {
         &mut times,
         &mut fields,
         &mut records,
+        &mut words,
         &mut buffer,
     );
 }
@@ -318,6 +346,7 @@ pub fn trace() {
     let mut times = [0u32; 1024];
     let mut fields = [0u8; 132_096];
     let mut records = [0u64; 1024];
+    let mut words = [0u64; 256];
     let mut buffer = [0u8; 175_112];
     buffered(
         Machine::new(true),
@@ -325,6 +354,7 @@ pub fn trace() {
         &mut times,
         &mut fields,
         &mut records,
+        &mut words,
         &mut buffer,
     );
 }

@@ -1,8 +1,10 @@
 // A line is read, run on the table and answered.
-use crate::calls::call;
+use crate::calls::any_call;
+use asking::AskingHandler;
 use script_answers::put_answer;
 use script_lines::Line;
 use script_lines::Verdict;
+use script_lines::asks_half;
 use script_lines::read_line;
 use script_machine::Machine;
 use script_machine::Ran;
@@ -20,6 +22,7 @@ fn called(
     times: &mut [u32],
     fields: &mut [u8],
     records: &mut [u64],
+    words: &mut [u64],
     buffer: &mut [u8],
     line: &[u8],
     out: &mut [u8],
@@ -28,15 +31,30 @@ fn called(
 ) -> Ran
     ensures { λ r.
         let before = session machine (now (keys .entry)) (now (times .entry)) (now (fields .entry)) (now (records .entry))
-        (now (buffer .entry)) (now (line .entry)) (sheet (now (out .entry)) at) in
+        (now (words .entry)) (now (buffer .entry)) (now (line .entry)) (sheet (now (out .entry)) at) in
         let after = session (r .machine) (now (keys .exit)) (now (times .exit)) (now (fields .exit)) (now (records .exit))
-        (now (buffer .exit)) (now (line .entry)) (sheet (now (out .exit)) (r .at)) in
+        (now (words .exit)) (now (buffer .exit)) (now (line .entry)) (sheet (now (out .exit)) (r .at)) in
         ⌜ after ≡ called (read .letter) (read .values) (bytesAt read (now (line .entry))) before ⌝ }
 {
-    let before = machine.state;
-    let answer = call(before, keys, times, fields, records, buffer, line, read);
+    let state = machine.state;
+    let groups = machine.groups;
+    let asking = AskingHandler { state, groups };
+    let done = any_call(
+        asking,
+        keys,
+        times,
+        fields,
+        records,
+        words,
+        buffer,
+        line,
+        read,
+    );
+    let answer = done.answer;
     let after = answer.state;
+    let left = done.groups;
     machine.state = after;
+    machine.groups = left;
     Ran {
         machine,
         at: put_answer(out, at, machine.trace, read.letter, answer, fields, buffer),
@@ -50,6 +68,7 @@ fn obeyed(
     times: &mut [u32],
     fields: &mut [u8],
     records: &mut [u64],
+    words: &mut [u64],
     buffer: &mut [u8],
     line: &[u8],
     out: &mut [u8],
@@ -58,17 +77,20 @@ fn obeyed(
 ) -> Ran
     ensures { λ r.
         let before = session machine (now (keys .entry)) (now (times .entry)) (now (fields .entry)) (now (records .entry))
-        (now (buffer .entry)) (now (line .entry)) (sheet (now (out .entry)) at) in
+        (now (words .entry)) (now (buffer .entry)) (now (line .entry)) (sheet (now (out .entry)) at) in
         let after = session (r .machine) (now (keys .exit)) (now (times .exit)) (now (fields .exit)) (now (records .exit))
-        (now (buffer .exit)) (now (line .entry)) (sheet (now (out .exit)) (r .at)) in
+        (now (words .exit)) (now (buffer .exit)) (now (line .entry)) (sheet (now (out .exit)) (r .at)) in
         ⌜ after ≡ obeyed (read .letter) (read .values) (bytesAt read (now (line .entry))) before ⌝ }
 {
     if read.letter == b'N' {
         return machine.sized(out, at, read.values[0], read.values[1]);
     }
+    if asks_half(read) {
+        return machine.wrong(out, at, Reason::NotANumber);
+    }
     if machine.present {
         if read.letter == b'D' {
-            return machine.dumped(keys, times, fields, records, out, at);
+            return machine.dumped(keys, times, fields, records, words, out, at);
         }
         if read.letter == b'Y' {
             return machine.parsed(line, out, at, read);
@@ -79,6 +101,7 @@ fn obeyed(
             times,
             fields,
             records,
+            words,
             buffer,
             line,
             out,
@@ -98,6 +121,7 @@ pub fn run_line(
     times: &mut [u32],
     fields: &mut [u8],
     records: &mut [u64],
+    words: &mut [u64],
     buffer: &mut [u8],
     line: &mut [u8],
     out: &mut [u8],
@@ -105,9 +129,9 @@ pub fn run_line(
 ) -> Ran
     ensures { λ r.
         let before = session (counted machine) (now (keys .entry)) (now (times .entry)) (now (fields .entry)) (now (records .entry))
-        (now (buffer .entry)) (now (line .entry)) (sheet (now (out .entry)) at) in
+        (now (words .entry)) (now (buffer .entry)) (now (line .entry)) (sheet (now (out .entry)) at) in
         let after = session (r .machine) (now (keys .exit)) (now (times .exit)) (now (fields .exit)) (now (records .exit))
-        (now (buffer .exit)) (now (line .exit)) (sheet (now (out .exit)) (r .at)) in
+        (now (words .exit)) (now (buffer .exit)) (now (line .exit)) (sheet (now (out .exit)) (r .at)) in
         ⌜ after ≡ runLine before ⌝ }
 {
     let m = machine.counted();
@@ -116,6 +140,18 @@ pub fn run_line(
     match verdict {
         Verdict::Nothing => Ran { machine: m, at },
         Verdict::Wrong(reason) => m.wrong(out, at, reason),
-        Verdict::Call => obeyed(m, keys, times, fields, records, buffer, line, out, at, read),
+        Verdict::Call => obeyed(
+            m,
+            keys,
+            times,
+            fields,
+            records,
+            words,
+            buffer,
+            line,
+            out,
+            at,
+            read,
+        ),
     }
 }

@@ -23,9 +23,9 @@ use Rattle.script_lines.specs.Lines.{notGiven}
 use Rattle.script_answers.specs.declared.Row.{Row}
 use Rattle.script_answers.specs.declared.Answer.{Answer}
 use Rattle.script_answers.specs.declared.Tail.{Tail}
-use Rattle.script_answers.specs.declared.Tail.the-variants.{Nothing, Scene, Ids, NoRow, Info, Image, Compared}
-use Rattle.script_answers.specs.Answers.{modesText, sizeLine, headTexts, rowTexts, sceneBytes, sceneTexts, listTexts, comparedText, fits, tailOf, answerLine}
-use Rattle.script_answers.specs.Dump.{entryTexts, entryLine, recordLine, countsLine, tableLines}
+use Rattle.script_answers.specs.declared.Tail.the-variants.{Nothing, Scene, Ids, NoRow, Info, Image, Number}
+use Rattle.script_answers.specs.Answers.{modesText, sizeLine, headTexts, rowTexts, sceneBytes, sceneTexts, listTexts, traceNumber, fits, tailOf, answerLine}
+use Rattle.script_answers.specs.Dump.{entryTexts, entryLine, recordLine, countsLine, tableLines, groupLine, groupLines}
 
 -- texts of at most so many bytes
 pub all-puts : (ts : List (List ℕ)) (most : ℕ) → total ts ≤ most → Puts most (writes ts)
@@ -46,9 +46,9 @@ modes-length modes =
       | false ↦ l
     ]
 
-compared-length : (trace : Bool) (n : ℕ) → length (comparedText trace n) ≤ 21
-compared-length true n = number-length n
-compared-length false n = omega arith
+trace-number-length : (trace : Bool) (n : ℕ) → length (traceNumber trace n) ≤ 21
+trace-number-length true n = number-length n
+trace-number-length false n = omega arith
 
 -- a fault has at most two digits
 fault-length : (s : ℕ) → s < 16 → length (decimal s) ≤ 2
@@ -185,6 +185,23 @@ table-puts t =
     (fields-length i t))))
     (puts-below (λ i. recordLine (getD (t .records) i 0)) 90 m (λ i l. record-total (getD (t .records) i 0))))
 
+-- a membership has at most 66 bytes
+group-total : (word : ℕ) → total (groupLine word) ≤ 66
+unfolding total
+group-total word =
+    let a = number-length (fabricOf word) in
+    let b = number-length (endpointOf word) in
+    let c = number-length (groupOf word) in
+    omega arith
+
+-- memberships, by what the lent slice has
+pub groups-puts : (held : ℕ) (words : List ℕ) → Puts (length words * 66) (groupLines held words)
+unfolding groupLines
+groups-puts held words =
+    let n : ℕ = min held (length words) in
+    puts-most (n * 66) _ (groupLines held words) (omega arith)
+    (puts-below (λ i. groupLine (getD words i 0)) 66 n (λ i l. group-total (getD words i 0)))
+
 -- the most that an answer has beyond its status: a list of 1,024 ids, or an image of all that the buffer holds
 abbrev pub tailMost : List ℕ → ℕ
 tailMost buffer = 21525 + length buffer * 2
@@ -202,7 +219,7 @@ tail-puts trace (Image len) buffer fields h =
     let b = bytes-length (take len buffer) in
     let l = length-take len buffer in
     puts-text _ (spaced (bytesText (take len buffer))) (omega arith)
-tail-puts trace (Compared n) buffer fields h = let l = compared-length trace n in puts-text _ (comparedText trace n) (omega arith)
+tail-puts trace (Number n) buffer fields h = let l = trace-number-length trace n in puts-text _ (traceNumber trace n) (omega arith)
 
 -- an answer has at most this
 abbrev pub answerMost : List ℕ → ℕ

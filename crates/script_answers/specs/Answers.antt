@@ -8,7 +8,7 @@ use Rattle.words.specs.Constants.{maxScenes, maxFields, stride}
 use Rattle.script_lines.specs.Lines.{notGiven}
 use Rattle.script_answers.specs.declared.Row.{Row}
 use Rattle.script_answers.specs.declared.Tail.{Tail}
-use Rattle.script_answers.specs.declared.Tail.the-variants.{Nothing, Scene, Ids, NoRow, Info, Image, Compared}
+use Rattle.script_answers.specs.declared.Tail.the-variants.{Nothing, Scene, Ids, NoRow, Info, Image, Number}
 use Rattle.script_answers.specs.declared.Answer.{Answer}
 use Rattle.text_output.specs.Writing.{Sheet, puts, writes, writesBelow, newline, number, spaced, flagText, bytesText, statusText}
 
@@ -61,11 +61,11 @@ sceneBytes at len fields = take len (drop (at * stride + 1) fields)
 abbrev pub imageText : List ℕ → ℕ → List ℕ
 imageText buffer len = spaced (bytesText (take len buffer))
 
--- how many key words a store compared, in a trace alone
-abbrev pub comparedText : Bool → ℕ → List ℕ
-comparedText trace n = cond trace (number n) []
+-- a number, in a trace alone
+abbrev pub traceNumber : Bool → ℕ → List ℕ
+traceNumber trace n = cond trace (number n) []
 
--- what an answer has beyond its status: nothing, a scene, a list, ` none`, an info row, an image, or a store's count
+-- what an answer has beyond its status: nothing, a scene, a list, ` none`, an info row, an image, or a number of a trace
 abbrev pub tailOf : Bool → Tail → List ℕ → List ℕ → Sheet → Sheet
 tailOf trace Nothing buffer fields s = s
 tailOf trace (Scene time at len) buffer fields s = writes (sceneTexts time (sceneBytes at len fields)) s
@@ -73,7 +73,7 @@ tailOf trace (Ids remaining len) buffer fields s = listTexts remaining buffer le
 tailOf trace NoRow buffer fields s = puts (32 ∷ 110 ∷ 111 ∷ 110 ∷ 101 ∷ []) s
 tailOf trace (Info row) buffer fields s = writes (rowTexts row) s
 tailOf trace (Image len) buffer fields s = puts (imageText buffer len) s
-tailOf trace (Compared n) buffer fields s = puts (comparedText trace n) s
+tailOf trace (Number n) buffer fields s = puts (traceNumber trace n) s
 
 -- a scene's position and length are those that an entry can have, and a list has no more ids than a table has entries
 abbrev pub fits : Tail → Type 0
@@ -83,7 +83,7 @@ fits (Ids remaining len) = len ≤ maxScenes
 fits NoRow = Unit
 fits (Info row) = Unit
 fits (Image len) = Unit
-fits (Compared n) = Unit
+fits (Number n) = Unit
 
 -- a line: the head and the tail, with the buffer and the fields that the call left
 unfoldable pub answerLine : Bool → ℕ → Answer → List ℕ → List ℕ → Sheet → Sheet

@@ -37,6 +37,14 @@ tableLines t s =
     writesBelow (λ i. recordLine (getD (t .records) i 0)) (min (t .state .recorded) (length (t .records)))
     (writesBelow (entryLine t) (min (t .state .entries) (length (t .slots .keys))) (writes (countsLine (t .state)) s))
 
+-- ` m`, fabric, endpoint and group
+abbrev pub groupLine : ℕ → List (List ℕ)
+groupLine word = (32 ∷ 109 ∷ []) ∷ number (fabricOf word) ∷ number (endpointOf word) ∷ number (groupOf word) ∷ newline ∷ []
+
+-- a line for each of so many memberships that the lent slice has: where they are sound, for all of them
+unfoldable pub groupLines : ℕ → List ℕ → Sheet → Sheet
+groupLines held words s = writesBelow (λ i. groupLine (getD words i 0)) (min held (length words)) s
+
 -- ---- the line of an entry, by a count and the slices alone
 
 -- how many entries have fields to show: all those of a sound table, and none of another

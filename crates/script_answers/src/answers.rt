@@ -19,7 +19,7 @@ ghost use Prim.Native.Nat.{min, _≤_};
 ghost use lib.ListN.{length, getD};
 ghost use Rattle.words.specs.Constants.{maxScenes};
 ghost use Rattle.text_output.specs.Writing.{sheet, puts, writes, writesBelow, number};
-ghost use Rattle.script_answers.specs.Answers.{sizeWord, modesText, sizeLine, headTexts, rowTexts, sceneBytes, sceneTexts, listTexts, imageText, comparedText, fits, tailOf, answerLine};
+ghost use Rattle.script_answers.specs.Answers.{sizeWord, modesText, sizeLine, headTexts, rowTexts, sceneBytes, sceneTexts, listTexts, imageText, traceNumber, fits, tailOf, answerLine};
 
 // `N` in a trace, else `scenes`.
 fn put_size_word(out: &mut [u8], at: usize, trace: bool) -> usize
@@ -112,12 +112,12 @@ fn put_image(out: &mut [u8], at: usize, buffer: &[u8], len: usize) -> usize
     put_bytes(out, at, part(buffer, 0, len))
 }
 
-// In a trace, how many key words a store compared.
-fn put_compared(out: &mut [u8], at: usize, trace: bool, compared: usize) -> usize
-    ensures { λ r. ⌜ sheet (now (out .exit)) r ≡ puts (comparedText trace compared) (sheet (now (out .entry)) at) ⌝ }
+// A number, in a trace alone.
+fn put_trace_number(out: &mut [u8], at: usize, trace: bool, n: usize) -> usize
+    ensures { λ r. ⌜ sheet (now (out .exit)) r ≡ puts (traceNumber trace n) (sheet (now (out .entry)) at) ⌝ }
 {
     if trace {
-        return put_number(out, at, compared as u64);
+        return put_number(out, at, n as u64);
     }
     at
 }
@@ -141,7 +141,7 @@ fn put_tail(
         Tail::NoRow => put_text(out, at, b" none"),
         Tail::Info(row) => put_row(out, at, row),
         Tail::Image(len) => put_image(out, at, buffer, len),
-        Tail::Compared(compared) => put_compared(out, at, trace, compared),
+        Tail::Number(n) => put_trace_number(out, at, trace, n),
     }
 }
 

@@ -1,4 +1,4 @@
-// The lines of a table as it stands.
+// The lines of a table as it stands, and of memberships.
 use state::ScenesState;
 use text_input::part;
 use text_output::end_line;
@@ -14,7 +14,7 @@ ghost use lib.ListN.{getD};
 ghost use Rattle.words.specs.Constants.{maxScenes};
 ghost use Rattle.state.specs.Table.{tableOf};
 ghost use Rattle.text_output.specs.Writing.{sheet, writes, writesBelow};
-ghost use Rattle.script_answers.specs.Dump.{keyTexts, entryTexts, storedIn, shownBytes, entryShown, countsLine, recordLine, tableLines};
+ghost use Rattle.script_answers.specs.Dump.{keyTexts, entryTexts, storedIn, shownBytes, entryShown, countsLine, recordLine, tableLines, groupLine, groupLines};
 
 // A word of a lent slice, or 0 past its end.
 fn word_at(words: &[u64], i: usize) -> u64
@@ -188,4 +188,29 @@ pub fn put_table(
     let counts = put_counts(out, at, state);
     let entries = put_entries(out, counts, shown, stored, keys, times, fields);
     put_records(out, entries, recorded, records)
+}
+
+// A membership's line.
+fn put_group(out: &mut [u8], at: usize, word: u64) -> usize
+    ensures { λ r. ⌜ sheet (now (out .exit)) r ≡ writes (groupLine word) (sheet (now (out .entry)) at) ⌝ }
+{
+    let letter = put_text(out, at, b" m");
+    let fabric = put_number(out, letter, words::fabric_of(word));
+    let endpoint = put_number(out, fabric, words::endpoint_of(word) as u64);
+    let group = put_number(out, endpoint, words::group_of(word) as u64);
+    end_line(out, group)
+}
+
+// The lines of memberships: of as many as are held and the lent slice has.
+pub fn put_groups(out: &mut [u8], at: usize, held: usize, words: &[u64]) -> usize
+    ensures { λ r. ⌜ sheet (now (out .exit)) r ≡ groupLines held (now (words .entry)) (sheet (now (out .entry)) at) ⌝ }
+{
+    let n = least(held, words.len());
+    let mut next = at;
+    let mut i = 0;
+    while i < n {
+        next = put_group(out, next, words[i]);
+        i += 1;
+    }
+    next
 }

@@ -5,6 +5,7 @@ mod dump;
 pub use answers::put_answer;
 pub use answers::put_head;
 pub use answers::put_size;
+pub use dump::put_groups;
 pub use dump::put_table;
 use state::Outcome;
 use state::ScenesState;
@@ -21,7 +22,8 @@ pub struct Row {
 }
 
 // What an answer has beyond its status: nothing, the time, position and length of a scene, the remaining capacity and the count of a
-// list, an info read with or without a row, the length of an image, or how many key words a store compared, which only a trace shows.
+// list, an info read with or without a row, the length of an image, or a number that only a trace shows: how many key words a store
+// compared, or whether a membership is held, 1 or 0.
 pub enum Tail {
     Nothing,
     Scene(u32, usize, usize),
@@ -29,7 +31,7 @@ pub enum Tail {
     NoRow,
     Info(Row),
     Image(usize),
-    Compared(usize),
+    Number(usize),
 }
 
 // An answer, with the head that it leaves.

@@ -12,7 +12,7 @@ use Rattle.commands.specs.Counted.{Counted, storeCounted}
 use Rattle.copies.specs.Copy.{copyScene}
 use Rattle.add_read.specs.Adding.{addSceneRead}
 use Rattle.script_lines.specs.Values.{byte, short, long, valueAt, sceneKey, groupKey}
-use Rattle.script_answers.specs.declared.Tail.the-variants.{Compared}
+use Rattle.script_answers.specs.declared.Tail.the-variants.{Number}
 use Rattle.script_answers.specs.Done.{Done, plain}
 
 abbrev pub copyRequest : List ℕ → CopyRequest
@@ -35,7 +35,7 @@ addRead values pairs ext t =
 
 -- a store's answer ends with its count
 abbrev pub storeDone : Counted → Done
-storeDone c = record { status = c .result .status; save = c .result .save; tail = Compared (c .compared); table = c .result .table }
+storeDone c = record { status = c .result .status; save = c .result .save; tail = Number (c .compared); table = c .result .table }
 
 -- S, with the captured bytes
 unfoldable pub store : List ℕ → List ℕ → Table → Done

@@ -20,7 +20,8 @@ ghost use Rattle.script_lines.specs.Values.{bytesAt};
 ghost use Rattle.script_answers.specs.Done.{doneOf};
 ghost use Rattle.script_commands.specs.Commands.{copyRequest, add, addRead, store, remove, removeAll, copy, command};
 
-fn copy_request(read: Line) -> CopyRequest
+// The copy that the first seven words name.
+pub fn copy_request(read: Line) -> CopyRequest
     ensures { λ r. ⌜ r ≡ copyRequest (read .values) ⌝ }
 {
     let from = GroupScene {
@@ -139,7 +140,7 @@ fn store(
         status: done.status,
         save: done.save,
         state: after,
-        tail: Tail::Compared(done.compared),
+        tail: Tail::Number(done.compared),
     }
 }
 

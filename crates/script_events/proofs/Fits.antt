@@ -13,7 +13,7 @@ use Rattle.script_events.specs.Writes.{setVersion, entryFits, pushEntry,
 pub event-fits : (letter : ℕ) (values : List ℕ) (t : Table) → fits (event letter values t .tail)
 unfolding event
 event-fits letter values t =
-    fit-done (eqb letter 84) _ _ tt (fit-done (eqb letter 70) _ _ tt (fit-done (eqb letter 85) _ _ tt (fit-done (eqb letter 90) _ _ tt tt)))
+    fit-done (eqb letter 84) _ _ tt (fit-done (eqb letter 85) _ _ tt tt)
 
 entry-fits : (values ext : List ℕ) (t : Table) → fits (pushEntry values ext t .tail)
 unfolding pushEntry

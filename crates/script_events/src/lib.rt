@@ -4,7 +4,6 @@ mod writes;
 use scenes::ScenesHandler;
 use script_answers::Answer;
 use script_lines::Line;
-use script_lines::byte;
 use script_lines::short;
 use state::ScenesState;
 pub use writes::host_write;
@@ -13,7 +12,7 @@ ghost use Rattle.state.specs.Table.{tableOf};
 ghost use Rattle.script_answers.specs.Done.{doneOf};
 ghost use Rattle.script_events.specs.Events.{event};
 
-// An attribute notice, a fabric removal, or another event of the host.
+// An attribute notice, or another event of the host.
 pub fn event(
     state: ScenesState,
     keys: &mut [u64],
@@ -39,18 +38,7 @@ pub fn event(
                 endpoint,
             ))
         }
-        b'F' => {
-            let fabric = byte(read.values[0]);
-            Answer::plain(ScenesHandler { state }.remove_for_fabric(
-                keys,
-                times,
-                fields,
-                records,
-                fabric,
-            ))
-        }
         b'U' => Answer::plain(ScenesHandler { state }.startup(keys, times, fields, records)),
-        b'Z' => Answer::plain(ScenesHandler { state }.factory_reset(keys, times, fields, records)),
         b'W' => Answer::plain(ScenesHandler { state }.fail_safe_commit(
             keys,
             times,

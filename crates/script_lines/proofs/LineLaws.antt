@@ -20,7 +20,7 @@ use Rattle.words.specs.Below.{positions}
 use Rattle.script_lines.specs.declared.reader.Kind.{Kind}
 use Rattle.script_lines.specs.declared.reader.Kind.the-variants.{End, Byte, Short, Long, Member, Flag, Size, Modes, Digits, Hex, Override, Length}
 use Rattle.script_lines.specs.declared.reader.Reading.{Reading}
-use Rattle.script_lines.specs.Lines.{Meaning, Number, Text, Unclear, numeral, spelling, overrideOf, mostScenes, modesOf, spells, wordSays, wordAnswer, wordLeft, readAs, meaning, blanks, afterBlanks, firstWord, behindWord, Said, Nothing, Wrong, Call, ahead, follow, wordsSay, letterSays, lineSays, known, oneOf, kindsOf, understood, wordsLeft, lineLeft, ReadsNext, wordRead}
+use Rattle.script_lines.specs.Lines.{Meaning, Number, Text, Unclear, numeral, spelling, overrideOf, mostScenes, modesOf, memberWord, spells, wordSays, wordAnswer, wordLeft, readAs, meaning, blanks, afterBlanks, firstWord, behindWord, Said, Nothing, Wrong, Call, ahead, follow, wordsSay, letterSays, lineSays, known, oneOf, kindsOf, understood, wordsLeft, lineLeft, ReadsNext, wordRead}
 use Rattle.text_input.specs.declared.input.Word.the-variants as word
 
 -- ---- a word
@@ -56,7 +56,7 @@ word-says trace End w rest = numeral-says End refl (cond (eqb (length w) 0) (wor
 word-says trace Byte w rest = numeral-says Byte refl (numberOf 255 w) w rest
 word-says trace Short w rest = numeral-says Short refl (numberOf 65535 w) w rest
 word-says trace Long w rest = numeral-says Long refl (numberOf (2 ^ 32 - 1) w) w rest
-word-says trace Member w rest = numeral-says Member refl (numberOf 2 w) w rest
+word-says trace Member w rest = numeral-says Member refl (memberWord trace w) w rest
 word-says trace Flag w rest = numeral-says Flag refl (numberOf 1 w) w rest
 word-says trace Size w rest = numeral-says Size refl (numberOf (mostScenes trace) w) w rest
 word-says trace Modes w rest = numeral-says Modes refl (modesOf trace w) w rest
@@ -339,7 +339,8 @@ all-ten letter =
     (ten-cond (eqb letter 89) ten-list
     (ten-cond (eqb letter 101) ten-list
     (ten-cond (eqb letter 114) ten-list
-    ten-list)))))))))))))))))))
+    (ten-cond (oneOf letter (74 ∷ 81 ∷ 72 ∷ 109 ∷ [])) ten-list
+    ten-list))))))))))))))))))))
 
 pub kinds-length : (letter : ℕ) → length (kindsOf letter) ≡ 10
 kinds-length letter = all-ten letter .ten

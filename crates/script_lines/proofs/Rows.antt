@@ -2,9 +2,9 @@
 use mathlib.Core.Path.{_≡_, refl}
 use mathlib.Core.Bool.{true, false}
 use mathlib.Core.List.{[], _∷_}
-use Rattle.text_output.specs.declared.reason.Reason.the-variants.{Unknown, Missing, TooMany, TooLarge}
+use Rattle.text_output.specs.declared.reason.Reason.the-variants.{Unknown, Missing, TooMany, NotANumber, TooLarge}
 use Rattle.text_input.specs.Reading.{blank, leading, digitValue, numberFrom, numberOf, same, orDash, hexValue, allPairs, pairBytes}
-use Rattle.script_lines.specs.Lines.{oneOf, known, kindsOf, notGiven, modesOf, Number, Text, Nothing, Wrong, Call, wordsSay, letterSays, lineSays, wordsLeft, lineLeft}
+use Rattle.script_lines.specs.Lines.{oneOf, known, kindsOf, notGiven, modesOf, asks, memberWord, Number, Text, Nothing, Wrong, Call, wordsSay, letterSays, lineSays, wordsLeft, lineLeft}
 
 -- a blank and a tab
 blank-line : lineSays true (32 ∷ 9 ∷ []) ≡ Nothing
@@ -68,13 +68,13 @@ bench-modes = refl
 -- `S 1 2 3 4 1 0aF0`
 bytes : lineSays false (83 ∷ 32 ∷ 49 ∷ 32 ∷ 50 ∷ 32 ∷ 51 ∷ 32 ∷ 52 ∷ 32 ∷ 49 ∷ 32 ∷ 48 ∷ 97 ∷ 70 ∷ 48 ∷ [])
     ≡ Call 83 (Number 1 ∷ Number 2 ∷ Number 3 ∷ Number 4 ∷ Number 1 ∷ Text (10 ∷ 240 ∷ []) ∷ Number 0 ∷ Number 0 ∷ Number 0 ∷ Number 0 ∷ [])
-unfolding lineSays blank leading letterSays known oneOf kindsOf wordsSay numberOf numberFrom digitValue same orDash allPairs pairBytes hexValue
+unfolding lineSays blank leading letterSays known oneOf kindsOf wordsSay memberWord numberOf numberFrom digitValue same orDash allPairs pairBytes hexValue
 bytes = refl
 
 -- it is left as `S 1 2 3 4 1 `, 10, 240, `F0`
 bytes-left : lineLeft false (83 ∷ 32 ∷ 49 ∷ 32 ∷ 50 ∷ 32 ∷ 51 ∷ 32 ∷ 52 ∷ 32 ∷ 49 ∷ 32 ∷ 48 ∷ 97 ∷ 70 ∷ 48 ∷ [])
     ≡ 83 ∷ 32 ∷ 49 ∷ 32 ∷ 50 ∷ 32 ∷ 51 ∷ 32 ∷ 52 ∷ 32 ∷ 49 ∷ 32 ∷ 10 ∷ 240 ∷ 70 ∷ 48 ∷ []
-unfolding lineLeft blank leading known oneOf kindsOf wordsLeft numberOf numberFrom digitValue same orDash allPairs pairBytes hexValue
+unfolding lineLeft blank leading known oneOf kindsOf wordsLeft memberWord numberOf numberFrom digitValue same orDash allPairs pairBytes hexValue
 bytes-left = refl
 
 -- `e 1 2 3 4 5 0g` stays
@@ -82,3 +82,13 @@ refused-left : lineLeft true (101 ∷ 32 ∷ 49 ∷ 32 ∷ 50 ∷ 32 ∷ 51 ∷ 
     ≡ 101 ∷ 32 ∷ 49 ∷ 32 ∷ 50 ∷ 32 ∷ 51 ∷ 32 ∷ 52 ∷ 32 ∷ 53 ∷ 32 ∷ 48 ∷ 103 ∷ []
 unfolding lineLeft blank leading known oneOf kindsOf wordsLeft numberOf numberFrom digitValue same orDash allPairs hexValue
 refused-left = refl
+
+-- `X 1 2 3 ?`, of scenetrace; `S 1 2 3 4 ? 0A`, of scenebench
+asked : lineSays true (88 ∷ 32 ∷ 49 ∷ 32 ∷ 50 ∷ 32 ∷ 51 ∷ 32 ∷ 63 ∷ [])
+    ≡ Call 88 (Number 1 ∷ Number 2 ∷ Number 3 ∷ Number asks ∷ Number 0 ∷ Number 0 ∷ Number 0 ∷ Number 0 ∷ Number 0 ∷ Number 0 ∷ [])
+unfolding lineSays blank leading letterSays known oneOf kindsOf wordsSay memberWord numberOf numberFrom digitValue same
+asked = refl
+
+bench-asked : lineSays false (83 ∷ 32 ∷ 49 ∷ 32 ∷ 50 ∷ 32 ∷ 51 ∷ 32 ∷ 52 ∷ 32 ∷ 63 ∷ 32 ∷ 48 ∷ 65 ∷ []) ≡ Wrong NotANumber
+unfolding lineSays blank leading letterSays known oneOf kindsOf wordsSay memberWord numberOf numberFrom digitValue
+bench-asked = refl

@@ -25,12 +25,12 @@ unfoldable pub oneOf : ℕ → List ℕ → Bool
 oneOf letter [] = false
 oneOf letter (l ∷ ls) = cond (eqb letter l) true (oneOf letter ls)
 
--- N A S V are of both programs; R X C L M I T F Z U W E D K e r P G B Y of scenetrace alone
+-- N A S V are of both programs; R X C L M I T F Z U W E D K e r P G B Y J Q H m of scenetrace alone
 unfoldable pub known : ℕ → Bool → Bool
 known letter trace =
     cond (oneOf letter (78 ∷ 65 ∷ 83 ∷ 86 ∷ [])) true
     (cond trace
-    (oneOf letter (82 ∷ 88 ∷ 67 ∷ 76 ∷ 77 ∷ 73 ∷ 84 ∷ 70 ∷ 90 ∷ 85 ∷ 87 ∷ 69 ∷ 68 ∷ 75 ∷ 101 ∷ 114 ∷ 80 ∷ 71 ∷ 66 ∷ 89 ∷ []))
+    (oneOf letter (82 ∷ 88 ∷ 67 ∷ 76 ∷ 77 ∷ 73 ∷ 84 ∷ 70 ∷ 90 ∷ 85 ∷ 87 ∷ 69 ∷ 68 ∷ 75 ∷ 101 ∷ 114 ∷ 80 ∷ 71 ∷ 66 ∷ 89 ∷ 74 ∷ 81 ∷ 72 ∷ 109 ∷ []))
     false)
 
 -- the image buffer: as long as the image of 1,024 scenes can be
@@ -67,7 +67,8 @@ kindsOf letter =
     (cond (eqb letter 89) (Hex ∷ End ∷ End ∷ End ∷ End ∷ End ∷ End ∷ End ∷ End ∷ End ∷ [])
     (cond (eqb letter 101) (sceneAnd Long Hex End End)
     (cond (eqb letter 114) (sceneAnd Flag End End End)
-    (End ∷ End ∷ End ∷ End ∷ End ∷ End ∷ End ∷ End ∷ End ∷ End ∷ [])))))))))))))))))))
+    (cond (oneOf letter (74 ∷ 81 ∷ 72 ∷ 109 ∷ [])) (Byte ∷ Short ∷ Short ∷ End ∷ End ∷ End ∷ End ∷ End ∷ End ∷ End ∷ [])
+    (End ∷ End ∷ End ∷ End ∷ End ∷ End ∷ End ∷ End ∷ End ∷ End ∷ []))))))))))))))))))))
 
 -- ---- a word
 
@@ -103,6 +104,14 @@ notGiven = 2 ^ 8
 unfoldable pub modesOf : Bool → List ℕ → Word
 modesOf trace w = cond (eqb (length w) 0) (word.Value notGiven) (cond trace (numberOf 255 w) (word.Wrong reason.TooMany))
 
+-- what stands for a membership that is asked for: no told one is so large
+abbrev pub asks : ℕ
+asks = 3
+
+-- a membership that is told, or `?`, of scenetrace alone, for one that is asked for
+unfoldable pub memberWord : Bool → List ℕ → Word
+memberWord trace w = cond trace (cond (same w (63 ∷ [])) (word.Value asks) (numberOf 2 w)) (numberOf 2 w)
+
 -- whether words of a kind spell bytes
 abbrev pub spells : Kind → Bool
 spells End = false
@@ -124,7 +133,7 @@ wordSays trace End w = numeral (cond (eqb (length w) 0) (word.Value 0) (word.Wro
 wordSays trace Byte w = numeral (numberOf 255 w)
 wordSays trace Short w = numeral (numberOf 65535 w)
 wordSays trace Long w = numeral (numberOf (2 ^ 32 - 1) w)
-wordSays trace Member w = numeral (numberOf 2 w)
+wordSays trace Member w = numeral (memberWord trace w)
 wordSays trace Flag w = numeral (numberOf 1 w)
 wordSays trace Size w = numeral (numberOf (mostScenes trace) w)
 wordSays trace Modes w = numeral (modesOf trace w)

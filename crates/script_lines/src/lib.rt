@@ -7,6 +7,8 @@ pub use reader::Line;
 pub use reader::Verdict;
 pub use reader::one_of;
 pub use reader::read_line;
+pub use values::asks;
+pub use values::asks_half;
 pub use values::byte;
 pub use values::group_key;
 pub use values::long;

@@ -11,7 +11,7 @@ ghost use mathlib.Core.Path.{_≡_};
 ghost use mathlib.Core.List.{_++_};
 ghost use lib.ListN.{length, take, drop};
 ghost use Rattle.text_input.specs.Reading.{turned};
-ghost use Rattle.script_lines.specs.Lines.{oneOf, known, twoWords, sceneAnd, kindsOf, overrideOf, mostScenes, modesOf, readAs, wordSays, wordsSay, wordsLeft, lineSays, lineLeft, ReadsNext, ReadsLine};
+ghost use Rattle.script_lines.specs.Lines.{oneOf, known, twoWords, sceneAnd, kindsOf, overrideOf, mostScenes, modesOf, memberWord, readAs, wordSays, wordsSay, wordsLeft, lineSays, lineLeft, ReadsNext, ReadsLine};
 
 // The kinds of words.
 enum Kind {
@@ -21,7 +21,7 @@ enum Kind {
     Byte,
     Short,
     Long,
-    // 1 yes, 0 no, 2 failed.
+    // 1 yes, 0 no, 2 failed; in scenetrace `?` too, where the memberships that are held are asked.
     Member,
     // 0 or 1.
     Flag,
@@ -56,6 +56,9 @@ impl Bounds {
 
     // What stands for modes that are not given: no byte is so large.
     pub const NOT_GIVEN: u64 = 0x100;
+
+    // What stands for a membership that is asked for.
+    pub const ASKS: u64 = 3;
 }
 
 // What is to be done with a line: nothing, what it says, or to say why it is not understood.
@@ -145,6 +148,7 @@ fn kinds_of(letter: u8) -> [Kind; 10]
         b'G' | b'Y' => [Kind::Hex, end, end, end, end, end, end, end, end, end],
         b'e' => scene_and(long, Kind::Hex, end, end),
         b'r' => scene_and(flag, end, end, end),
+        b'J' | b'Q' | b'H' | b'm' => [byte, short, short, end, end, end, end, end, end, end],
         _ => [end, end, end, end, end, end, end, end, end, end],
     }
 }
@@ -171,7 +175,7 @@ fn is_known(letter: u8, trace: bool) -> bool
         return true;
     }
     if trace {
-        return one_of(letter, b"RXCLMITFZUWEDKerPGBY");
+        return one_of(letter, b"RXCLMITFZUWEDKerPGBYJQHm");
     }
     false
 }
@@ -197,6 +201,19 @@ fn modes(word: &[u8], trace: bool) -> Word
         return number(word, 0xFF);
     }
     Word::Wrong(Reason::TooMany)
+}
+
+// A membership that is told, or `?` for one that is asked for.
+fn membership(word: &[u8], trace: bool) -> Word
+    ensures { λ r. ⌜ r ≡ memberWord trace (now (word .entry)) ⌝ }
+{
+    if trace {
+        if same(word, b"?") {
+            return Word::Value(Bounds::ASKS);
+        }
+        return number(word, 2);
+    }
+    number(word, 2)
 }
 
 // A transition time, or none.
@@ -226,7 +243,7 @@ fn read_word(word: &mut [u8], kind: Kind, trace: bool) -> Word
         Kind::Byte => number(word, 0xFF),
         Kind::Short => number(word, 0xFFFF),
         Kind::Long => number(word, 0xFFFF_FFFF),
-        Kind::Member => number(word, 2),
+        Kind::Member => membership(word, trace),
         Kind::Flag => number(word, 1),
         Kind::Size => number(word, most_scenes(trace)),
         Kind::Modes => modes(word, trace),

@@ -1,11 +1,13 @@
 // What the words of a line name: numbers of a width, a scene, a group.
+use crate::reader::Bounds;
 use crate::reader::Line;
+use crate::reader::one_of;
 use requests::Membership;
 use words::GroupKey;
 use words::SceneKey;
 ghost use mathlib.Core.Path.{_≡_};
 ghost use Rattle.requests.specs.Requests.{membershipOf};
-ghost use Rattle.script_lines.specs.Values.{byte, short, long, sceneKey, groupKey};
+ghost use Rattle.script_lines.specs.Values.{byte, short, long, sceneKey, groupKey, asking, halfAsking};
 
 pub fn byte(value: u64) -> u8
     ensures { λ r. ⌜ r ≡ byte value ⌝ }
@@ -53,4 +55,37 @@ pub fn group_key(read: Line) -> GroupKey
         endpoint: short(read.values[1]),
         group: short(read.values[2]),
     }
+}
+
+// Whether the membership of a line is asked for, and not told.
+pub fn asks(read: Line) -> bool
+    ensures { λ r. ⌜ r ≡ asking (read .letter) (read .values) ⌝ }
+{
+    let letter = read.letter;
+    if one_of(letter, b"AB") {
+        return read.values[5] == Bounds::ASKS;
+    }
+    if one_of(letter, b"SVRL") {
+        return read.values[4] == Bounds::ASKS;
+    }
+    if one_of(letter, b"XM") {
+        return read.values[3] == Bounds::ASKS;
+    }
+    if letter == b'C' {
+        return read.values[7] == Bounds::ASKS;
+    }
+    false
+}
+
+// Whether a copy asks for one of its memberships and is told the other.
+pub fn asks_half(read: Line) -> bool
+    ensures { λ r. ⌜ r ≡ halfAsking (read .letter) (read .values) ⌝ }
+{
+    if read.letter == b'C' {
+        if read.values[7] == Bounds::ASKS {
+            return read.values[8] != Bounds::ASKS;
+        }
+        return read.values[8] == Bounds::ASKS;
+    }
+    false
 }

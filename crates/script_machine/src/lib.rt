@@ -1,5 +1,7 @@
 // What a run of a script keeps from line to line, and the lines that need no call of the table: a new table, the table as it stands, the sets in
 // field bytes, and a line that is not understood.
+use groups::GroupsState;
+use script_answers::put_groups;
 use script_answers::put_size;
 use script_answers::put_table;
 use script_lines::Bounds;
@@ -15,15 +17,16 @@ ghost use Rattle.state.specs.Table.{tableOf};
 ghost use Rattle.text_output.specs.Writing.{writes};
 ghost use Rattle.text_output.specs.Errors.{errorLine};
 ghost use Rattle.script_answers.specs.Answers.{sizeLine};
-ghost use Rattle.script_answers.specs.Dump.{tableLines};
+ghost use Rattle.groups.specs.Groups.{groupsOf};
 ghost use Rattle.script_lines.specs.Values.{bytesAt};
 ghost use Rattle.script_sets.specs.Texts.{setsLine};
-ghost use Rattle.script_machine.specs.Machines.{newMachine, counted, newHead, sized, Ended};
+ghost use Rattle.script_machine.specs.Machines.{newMachine, counted, newHead, sized, dumpLines, Ended};
 
-// What a run keeps from line to line: the head of the table, whether there is one, whether every call may be made or only those of
-// scenebench, and how many lines were read.
+// What a run keeps from line to line: the heads of the table and of the memberships, whether there is a table, whether every call may be
+// made or only those of scenebench, and how many lines were read.
 pub struct Machine {
     pub state: ScenesState,
+    pub groups: GroupsState,
     pub present: bool,
     pub trace: bool,
     pub lines: u64,
@@ -52,6 +55,7 @@ impl Machine {
     {
         Machine {
             state: ScenesState::new(0),
+            groups: GroupsState::new(),
             present: false,
             trace,
             lines: 0,
@@ -76,12 +80,13 @@ impl Machine {
         }
     }
 
-    // N: a new table.
+    // N: a new table, and no memberships.
     pub fn sized(mut self, out: &mut [u8], at: usize, size: u64, modes: u64) -> Ran
         ensures { λ r.
             ⌜ Ended (sized size modes self) (writes (sizeLine (self .trace) size modes)) (now (out .entry)) at (now (out .exit)) r ⌝ }
     {
         self.state = new_head(size, modes);
+        self.groups = GroupsState::new();
         self.present = true;
         Ran {
             machine: self,
@@ -89,24 +94,27 @@ impl Machine {
         }
     }
 
-    // D: the table as it stands.
+    // D: the table and the memberships as they stand.
     pub fn dumped(
         self,
         keys: &[u64],
         times: &[u32],
         fields: &[u8],
         records: &[u64],
+        words: &[u64],
         out: &mut [u8],
         at: usize,
     ) -> Ran
         ensures { λ r.
             let table = tableOf (self .state) (now (keys .entry)) (now (times .entry)) (now (fields .entry)) (now (records .entry)) in
-            ⌜ Ended self (tableLines table) (now (out .entry)) at (now (out .exit)) r ⌝ }
+            let groups = groupsOf (self .groups) (now (words .entry)) in
+            ⌜ Ended self (dumpLines groups table) (now (out .entry)) at (now (out .exit)) r ⌝ }
     {
         let state = self.state;
+        let table = put_table(out, at, state, keys, times, fields, records);
         Ran {
             machine: self,
-            at: put_table(out, at, state, keys, times, fields, records),
+            at: put_groups(out, table, self.groups.held, words),
         }
     }
 

@@ -38,7 +38,7 @@ use Rattle.script_answers.proofs.DoneLaws.{fit-called}
 use Rattle.script_reads.specs.Reads.{transition, sceneTail, listTail, infoTail, view, recall, list, listIn, info, query}
 use Rattle.words.specs.declared.Found.the-variants as finding
 
-abbrev Within : SceneRead → Type 0
+abbrev pub Within : SceneRead → Type 0
 Within r = (r .at ≤ maxScenes) × (r .len ≤ maxFields)
 
 -- a scene that was found in a sound table, and whatever is read behind a guard
@@ -59,11 +59,11 @@ module _ (t : Table) where
         | false ↦ λ e. (omega arith, omega arith)
       ]) refl
 
-  view-within : (key : SceneKey) (m : Membership) → Within (viewScene key m t)
+  pub view-within : (key : SceneKey) (m : Membership) → Within (viewScene key m t)
   unfolding viewScene
   view-within key m = guarded-within (lookupGate key m) (readAt (findScene key t) Stored t) (λ s. read-within key Stored s (findScene key t) refl)
 
-  lookup-within : (key : SceneKey) (m : Membership) (o : Transition) → Within (recallLookup key m o t)
+  pub lookup-within : (key : SceneKey) (m : Membership) (o : Transition) → Within (recallLookup key m o t)
   unfolding recallLookup
   lookup-within key m o = guarded-within (lookupGate key m) (readAt (findScene key t) o t) (λ s. read-within key o s (findScene key t) refl)
 
@@ -76,7 +76,7 @@ module _ (t : Table) where
       let l = length-map (keptBelow inside (t .state .entries)) (λ i. sceneOf (getD (t .slots .keys) i 0)) in
       omega (arith, b .entries, b .most, l, kept-le inside (t .state .entries))
 
-  list-within : (key : GroupKey) (m : Membership) (buffer : List ℕ) → getSceneMembership key m buffer t .read .len ≤ maxScenes
+  pub list-within : (key : GroupKey) (m : Membership) (buffer : List ℕ) → getSceneMembership key m buffer t .read .len ≤ maxScenes
   unfolding getSceneMembership guarded listIds
   list-within key m buffer =
       (elim (eqb (refusalOf t (groupGate key m)) success) as
@@ -101,14 +101,14 @@ module _ (t : Table) where
           }) (laid (sceneIds key t) buffer))
 
 -- tails
-scene-fits : (r : SceneRead) → Within r → fits (sceneTail r)
+pub scene-fits : (r : SceneRead) → Within r → fits (sceneTail r)
 scene-fits r h =
     elim (eqb (r .status) success) as (λ b. fits (cond b (Scene (r .time) (r .at) (r .len)) Nothing)) [
       | true ↦ h
       | false ↦ tt
     ]
 
-list-fits : (r : ListRead) → r .len ≤ maxScenes → fits (listTail r)
+pub list-fits : (r : ListRead) → r .len ≤ maxScenes → fits (listTail r)
 list-fits r h =
     elim (eqb (r .status) success) as (λ b. fits (cond b (Ids (r .remaining) (r .len)) Nothing)) [
       | true ↦ h

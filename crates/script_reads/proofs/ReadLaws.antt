@@ -28,7 +28,7 @@ use Rattle.words.specs.declared.Found.the-variants as finding
 
 -- ---- a read leaves the head as it was
 
-cond-at : {A B : Type 0} (g : A → B) (s : B) (b : Bool) (x y : A) → g x ≡ s → g y ≡ s → g (cond b x y) ≡ s
+pub cond-at : {A B : Type 0} (g : A → B) (s : B) (b : Bool) (x y : A) → g x ≡ s → g y ≡ s → g (cond b x y) ≡ s
 cond-at g s true x y p q = p
 cond-at g s false x y p q = q
 
@@ -42,7 +42,7 @@ unfolding readAt
 read-state t o (finding.At p) = refl
 read-state t o finding.Nothing = refl
 
-view-state : (key : SceneKey) (m : Membership) (t : Table) → viewScene key m t .state ≡ t .state
+pub view-state : (key : SceneKey) (m : Membership) (t : Table) → viewScene key m t .state ≡ t .state
 unfolding viewScene
 view-state key m t = guarded-at (λ (r : SceneRead). r .state) (t .state) _ _ _ (λ k. refl) (read-state t Stored (findScene key t))
 
@@ -50,7 +50,7 @@ buffer-state : (l : List ℕ) (n : ℕ) (buffer : List ℕ) (t : Table) → list
 unfolding listIds
 buffer-state l n buffer t = cond-at (λ (r : Listed). r .read .state) (t .state) (ltb (length buffer) (length l)) _ _ refl refl
 
-list-state : (key : GroupKey) (m : Membership) (buffer : List ℕ) (t : Table) → getSceneMembership key m buffer t .read .state ≡ t .state
+pub list-state : (key : GroupKey) (m : Membership) (buffer : List ℕ) (t : Table) → getSceneMembership key m buffer t .read .state ≡ t .state
 unfolding getSceneMembership
 list-state key m buffer t = guarded-at (λ (r : Listed). r .read .state) (t .state) _ _ _ (λ k. refl) (buffer-state _ _ buffer t)
 
@@ -83,11 +83,10 @@ module _ (k tm f w : List ℕ) where
     read-done p q r = λ i. readOf (p i) (q i) (tableOf (r i) k tm f w)
 
     -- a view's, an info read's and a list's
-    pub viewed-done : (tail : Tail) (found : SceneRead) (key : SceneKey) (m : Membership)
-        → tail ≡ sceneTail found → found ≡ viewScene key m came
-        → readOf (found .status) tail (tableOf (found .state) k tm f w) ≡ viewed (viewScene key m came) came
-    viewed-done tail found key m e p =
-        read-done (ap (λ (r : SceneRead). r .status) p) (e ∙ ap sceneTail p) (ap (λ (r : SceneRead). r .state) p ∙ view-state key m came)
+    pub viewed-done : (tail : Tail) (found x : SceneRead) → tail ≡ sceneTail found → found ≡ x → x .state ≡ s
+        → readOf (found .status) tail (tableOf (found .state) k tm f w) ≡ viewed x came
+    viewed-done tail found x e p h =
+        read-done (ap (λ (r : SceneRead). r .status) p) (e ∙ ap sceneTail p) (ap (λ (r : SceneRead). r .state) p ∙ h)
 
     pub informed-done : (tail : Tail) (row : InfoRead) (fabric endpoint : ℕ) (single : Bool)
         → tail ≡ infoTail row → row ≡ readFabricSceneInfo fabric endpoint single came
@@ -96,10 +95,10 @@ module _ (k tm f w : List ℕ) where
         read-done (ap (λ (r : InfoRead). r .status) p) (e ∙ ap infoTail p)
         (ap (λ (r : InfoRead). r .state) p ∙ info-state fabric endpoint single came)
 
-    pub listed-done : (tail : Tail) (l : ListRead) (after : List ℕ) (key : GroupKey) (m : Membership) (buffer : List ℕ)
-        → tail ≡ listTail l → listedOf l after ≡ getSceneMembership key m buffer came
-        → calledOf (readOf (l .status) tail (tableOf (l .state) k tm f w)) after ≡ listed (getSceneMembership key m buffer came) came
-    listed-done tail l after key m buffer e p =
+    pub listed-done : (tail : Tail) (l : ListRead) (after : List ℕ) (x : Listed)
+        → tail ≡ listTail l → listedOf l after ≡ x → x .read .state ≡ s
+        → calledOf (readOf (l .status) tail (tableOf (l .state) k tm f w)) after ≡ listed x came
+    listed-done tail l after x e p h =
         let d = read-done (ap (λ (r : Listed). r .read .status) p) (e ∙ ap (λ (r : Listed). listTail (r .read)) p)
-        (ap (λ (r : Listed). r .read .state) p ∙ list-state key m buffer came) in
+        (ap (λ (r : Listed). r .read .state) p ∙ h) in
         λ i. calledOf (d i) (p i .ids)

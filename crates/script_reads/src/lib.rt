@@ -24,7 +24,8 @@ ghost use Rattle.state.specs.Table.{tableOf};
 ghost use Rattle.script_answers.specs.Done.{doneOf, calledOf};
 ghost use Rattle.script_reads.specs.Reads.{applied, transition, sceneTail, listTail, infoTail, view, recall, list, listIn, info, query};
 
-fn applied(value: u64) -> Applied
+// Whether the host applied a scene, by the last word of a recall.
+pub fn applied(value: u64) -> Applied
     ensures { λ r. ⌜ r ≡ applied value ⌝ }
 {
     if value == 0 {
@@ -33,7 +34,8 @@ fn applied(value: u64) -> Applied
     Applied::Yes
 }
 
-fn transition(value: u64) -> Transition
+// The override of a recall.
+pub fn transition(value: u64) -> Transition
     ensures { λ r. ⌜ r ≡ transition value ⌝ }
 {
     if value == Bounds::STORED {
@@ -43,7 +45,7 @@ fn transition(value: u64) -> Transition
 }
 
 // The time, position and length of a scene that was found.
-fn scene_tail(found: SceneRead) -> Tail
+pub fn scene_tail(found: SceneRead) -> Tail
     ensures { λ r. ⌜ r ≡ sceneTail found ⌝ }
 {
     if found.status == Status::SUCCESS {
@@ -53,7 +55,7 @@ fn scene_tail(found: SceneRead) -> Tail
 }
 
 // The remaining capacity and the length of a list that was read.
-fn list_tail(listed: ListRead) -> Tail
+pub fn list_tail(listed: ListRead) -> Tail
     ensures { λ r. ⌜ r ≡ listTail listed ⌝ }
 {
     if listed.status == Status::SUCCESS {

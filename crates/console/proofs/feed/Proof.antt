@@ -11,23 +11,24 @@ use Rattle.console.proofs.feed.Statement.{statement}
 use Rattle.console.proofs.feed.Tie as tie
 
 abbrev Inv-loop : tie.InvT-loop
-Inv-loop m₀ keys₀ times₀ fields₀ records₀ buffer₀ line₀ before chunk out₀ held₀ from₀ at₀ takes₀ m keys times fields records buffer line out held from at takes =
+Inv-loop m₀ keys₀ times₀ fields₀ records₀ words₀ buffer₀ line₀ before chunk out₀ held₀ from₀ at₀ takes₀ m keys times fields records words buffer line out held from at takes =
     (length keys ≡ length keys₀)
     × (length times ≡ length times₀)
     × (length fields ≡ length fields₀)
     × (length records ≡ length records₀)
+    × (length words ≡ length words₀)
     × (length buffer ≡ length buffer₀)
     × (length line ≡ length line₀)
     × (length out ≡ length out₀)
     × (at ≤ mostHeld)
 
 abbrev μ-loop : tie.MeasureT-loop
-μ-loop m₀ keys₀ times₀ fields₀ records₀ buffer₀ line₀ before chunk out₀ held₀ from₀ at₀ takes₀ m keys times fields records buffer line out held from at takes =
+μ-loop m₀ keys₀ times₀ fields₀ records₀ words₀ buffer₀ line₀ before chunk out₀ held₀ from₀ at₀ takes₀ m keys times fields records words buffer line out held from at takes =
     length chunk - from
 
 -- the places that the proof refers to, each from a later one
 abbrev start : tie.At-loop Inv-loop μ-loop → tie.Start Inv-loop μ-loop
-start c = c .before .before .before .before .before .before .before .before .before
+start c = c .before .before .before .before .before .before .before .before .before .before
 
 abbrev turn : tie.After-gather Inv-loop μ-loop → tie.At-loop Inv-loop μ-loop
 turn c = c .before .before .before
@@ -38,18 +39,18 @@ last c = c .before .before .before
 abbrev unended : tie.Else1 Inv-loop μ-loop → tie.After-gather Inv-loop μ-loop
 unended c = c .before .before .before
 
-abbrev gathered : tie.After-step-arg7 Inv-loop μ-loop → tie.After-gather Inv-loop μ-loop
-gathered c = c .before .before .before .before .before .before .before .before .before .before
+abbrev gathered : tie.After-step-arg8 Inv-loop μ-loop → tie.After-gather Inv-loop μ-loop
+gathered c = c .before .before .before .before .before .before .before .before .before .before .before
 
 abbrev ran : tie.After-m Inv-loop μ-loop → tie.After-step Inv-loop μ-loop
-ran c = c .before .before .before .before .before .before .before .before .before .before .before .before .before .before .before
+ran c = c .before .before .before .before .before .before .before .before .before .before .before .before .before .before .before .before .before
 
 -- there is more to take at each turn
 abbrev more : (c : tie.After-gather Inv-loop μ-loop) → turn c .loop .from < length (start (turn c) .args .chunk .now)
 more c = below-and _ (length (start (turn c) .args .chunk .now)) (turn c .loop .takes) (c .before .before .loop-test .taken)
 
 loop-holds : tie.Need-loop-holds Inv-loop μ-loop
-loop-holds c = (refl, refl, refl, refl, refl, refl, refl, omega arith)
+loop-holds c = (refl, refl, refl, refl, refl, refl, refl, refl, omega arith)
 
 step-requires : tie.Need-step-requires Inv-loop μ-loop
 step-requires c κs =
@@ -63,8 +64,11 @@ step-requires c κs =
         (
           omega (arith, i .4, p .1 .1 .0),
           (
-            omega (arith, g, i .5, p .1 .1 .1 .0),
-            (i .7, omega (arith, i .6, p .1 .1 .1 .1)),
+            omega (arith, i .5, p .1 .1 .1 .0),
+            (
+              omega (arith, g, i .6, p .1 .1 .1 .1 .0),
+              (i .8, omega (arith, i .7, p .1 .1 .1 .1 .1)),
+            ),
           ),
         ),
       ),
@@ -88,8 +92,9 @@ loop-again c =
       k .1 .1 .0 ∙ i .2,
       k .1 .1 .1 .0 ∙ i .3,
       k .1 .1 .1 .1 .0 ∙ i .4,
-      k .1 .1 .1 .1 .1 .0 ∙ g .gather .kept .1 .1 .0 ∙ i .5,
-      k .1 .1 .1 .1 .1 .1 .1 .0 ∙ i .6,
+      k .1 .1 .1 .1 .1 .0 ∙ i .5,
+      k .1 .1 .1 .1 .1 .1 .0 ∙ g .gather .kept .1 .1 .0 ∙ i .6,
+      k .1 .1 .1 .1 .1 .1 .1 .1 .0 ∙ i .7,
       d .step .ensures,
     )
 
@@ -104,7 +109,7 @@ loop-again-2 : tie.Need-loop-again-2 Inv-loop μ-loop
 loop-again-2 c =
     let g = unended c in
     let i = turn g .loop .inv in
-    (i .0, i .1, i .2, i .3, i .4, g .gather .kept .1 .1 .0 ∙ i .5, i .6, i .7)
+    (i .0, i .1, i .2, i .3, i .4, i .5, g .gather .kept .1 .1 .0 ∙ i .6, i .7, i .8)
 
 pub feed-spec : {M : Type 1} → statement M
 feed-spec =
@@ -127,4 +132,5 @@ feed-spec =
     (λ c. last c .loop .inv .4)
     (λ c. last c .loop .inv .5)
     (λ c. last c .loop .inv .6)
+    (λ c. last c .loop .inv .7)
     (λ c. search needs))

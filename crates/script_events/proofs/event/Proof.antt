@@ -2,7 +2,7 @@
 use mathlib.Core.Path.{_∙_}
 use borrow.Author.Tests.{ne-eqb}
 use Rattle.state.specs.Table.{Table, tableOf}
-use Rattle.lifecycle.specs.Lifecycle.{scenableAttributeChanged, removeForFabric, startup, factoryReset, failSafe}
+use Rattle.lifecycle.specs.Lifecycle.{scenableAttributeChanged, startup, failSafe}
 use Rattle.script_answers.specs.Done.{plain}
 use Rattle.script_events.specs.Events.{event}
 use Rattle.script_answers.proofs.DoneLaws.{plain-done}
@@ -23,22 +23,10 @@ endpoint c = c .before .before .before .before .before
 abbrev attribute : tie.After-plain → tie.After-scenable-attribute-changed
 attribute c = c .before .before .before
 
-abbrev at-fabric : tie.After-byte → tie.At-match-keys2
-at-fabric c = c .before .before
-
-abbrev fabric : tie.After-remove-for-fabric → tie.After-byte
-fabric c = c .before .before .before .before .before
-
-abbrev removal : tie.After-plain2 → tie.After-remove-for-fabric
-removal c = c .before .before .before .before .before .before .before .before .before
-
-abbrev at-startup : tie.After-startup → tie.At-match-keys3
+abbrev at-startup : tie.After-startup → tie.At-match-keys2
 at-startup c = c .before .before .before .before .before
 
-abbrev at-reset : tie.After-factory-reset → tie.At-match-keys4
-at-reset c = c .before .before .before .before .before
-
-abbrev at-commit : tie.After-fail-safe-commit → tie.At-match-keys5
+abbrev at-commit : tie.After-fail-safe-commit → tie.At-match-keys3
 at-commit c = c .before .before .before .before .before
 
 abbrev at-expiry : tie.After-fail-safe-expiry → tie.At-match-rest
@@ -60,49 +48,28 @@ returns c =
 returns-2 : tie.Need-returns-2
 unfolding event
 returns-2 c =
-    let f = fabric (removal c) in
-    let m = at-fabric f in
-    let t = came (start (m .before)) in
-    rw (m .match .keys2) (plain-done _ _ _ _ _ _ (removeForFabric (f .byte .result) t) (c .plain2 .ensures)
-    (removal c .remove-for-fabric .ensures) ∙ (λ i. plain (removeForFabric (f .byte .ensures i) t)))
+    let m = at-startup (c .before) in
+    rw (m .match .keys2) (plain-done _ _ _ _ _ _ (startup (came (start (m .before)))) (c .plain2 .ensures) (c .before .startup .ensures))
 
 returns-3 : tie.Need-returns-3
 unfolding event
 returns-3 c =
-    let m = at-startup (c .before) in
-    rw (m .match .keys3) (plain-done _ _ _ _ _ _ (startup (came (start (m .before)))) (c .plain3 .ensures) (c .before .startup .ensures))
+    let m = at-commit (c .before) in
+    rw (m .match .keys3) (plain-done _ _ _ _ _ _ (failSafe (came (start (m .before)))) (c .plain3 .ensures) (c .before .fail-safe-commit .ensures))
 
 returns-4 : tie.Need-returns-4
 unfolding event
 returns-4 c =
-    let m = at-reset (c .before) in
-    rw (m .match .keys4) (plain-done _ _ _ _ _ _ (factoryReset (came (start (m .before)))) (c .plain4 .ensures) (c .before .factory-reset .ensures))
-
-returns-5 : tie.Need-returns-5
-unfolding event
-returns-5 c =
-    let m = at-commit (c .before) in
-    rw (m .match .keys5) (plain-done _ _ _ _ _ _ (failSafe (came (start (m .before)))) (c .plain5 .ensures) (c .before .fail-safe-commit .ensures))
-
-returns-6 : tie.Need-returns-6
-unfolding event
-returns-6 c =
     let m = at-expiry (c .before) in
     let no = m .match .rest in
-    rw (ne-eqb _ _ (no .0 .0 .0 .0 .1), ne-eqb _ _ (no .0 .0 .0 .1), ne-eqb _ _ (no .0 .0 .1), ne-eqb _ _ (no .0 .1))
-    (plain-done _ _ _ _ _ _ (failSafe (came (start (m .before)))) (c .plain6 .ensures) (c .before .fail-safe-expiry .ensures))
+    rw (ne-eqb _ _ (no .0 .0 .1), ne-eqb _ _ (no .0 .1))
+    (plain-done _ _ _ _ _ _ (failSafe (came (start (m .before)))) (c .plain4 .ensures) (c .before .fail-safe-expiry .ensures))
 
 pub event-spec : {M : Type 1} → statement M
 event-spec =
     tie.close
     (tie.spec
     (λ c. search needs)
-    (λ c κs. search needs)
-    (λ c κs. search needs)
-    (λ c κs. search needs)
-    (λ c. search needs)
-    (λ c κs. search needs)
-    (λ c κs. search needs)
     (λ c κs. search needs)
     (λ c κs. search needs)
     (λ c κs. search needs)
@@ -131,14 +98,4 @@ event-spec =
     (λ c. search needs)
     (λ c. search needs)
     (λ c. search needs)
-    returns-4
-    (λ c. search needs)
-    (λ c. search needs)
-    (λ c. search needs)
-    (λ c. search needs)
-    returns-5
-    (λ c. search needs)
-    (λ c. search needs)
-    (λ c. search needs)
-    (λ c. search needs)
-    returns-6)
+    returns-4)

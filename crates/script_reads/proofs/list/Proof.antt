@@ -3,7 +3,7 @@ use mathlib.Core.Path.{_∙_}
 use Rattle.state.specs.Table.{Table, tableOf}
 use Rattle.reads.specs.Reads.{getSceneMembership}
 use Rattle.script_reads.specs.Reads.{list}
-use Rattle.script_reads.proofs.ReadLaws.{listed-done}
+use Rattle.script_reads.proofs.ReadLaws.{list-state, listed-done}
 use borrow.Author.Needs.{needs}
 use Rattle.script_reads.proofs.list.Statement.{statement}
 use Rattle.script_reads.proofs.list.Tie as tie
@@ -30,9 +30,9 @@ unfolding list
 returns c =
     let m = member (call c) in
     let s = start (key m) in
-    listed-done _ _ _ _ (s .args .state) _ (call c .get-scene-membership .result) _ _ _ _ (c .list-tail .ensures)
+    listed-done _ _ _ _ (s .args .state) _ (call c .get-scene-membership .result) _ _ (c .list-tail .ensures)
     (_∙_ {b = getSceneMembership (key m .group-key .result) (m .member .result) (s .args .buffer .now) (came s)} (call c .get-scene-membership .ensures)
-    (λ i. getSceneMembership (key m .group-key .ensures i) (m .member .ensures i) (s .args .buffer .now) (came s)))
+    (λ i. getSceneMembership (key m .group-key .ensures i) (m .member .ensures i) (s .args .buffer .now) (came s))) (list-state _ _ _ (came s))
 
 pub list-spec : {M : Type 1} → statement M
 list-spec =

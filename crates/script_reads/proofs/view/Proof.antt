@@ -3,7 +3,7 @@ use mathlib.Core.Path.{_∙_}
 use Rattle.state.specs.Table.{Table, tableOf}
 use Rattle.reads.specs.Reads.{viewScene}
 use Rattle.script_reads.specs.Reads.{view}
-use Rattle.script_reads.proofs.ReadLaws.{viewed-done}
+use Rattle.script_reads.proofs.ReadLaws.{view-state, viewed-done}
 use borrow.Author.Needs.{needs}
 use Rattle.script_reads.proofs.view.Statement.{statement}
 use Rattle.script_reads.proofs.view.Tie as tie
@@ -30,9 +30,9 @@ unfolding view
 returns c =
     let m = member (call c) in
     let t = came (start (key m)) in
-    viewed-done _ _ _ _ _ _ _ _ _ (c .scene-tail .ensures)
+    viewed-done _ _ _ _ _ _ _ _ (c .scene-tail .ensures)
     (_∙_ {b = viewScene (key m .scene-key .result) (m .member .result) t} (call c .view-scene .ensures)
-    (λ i. viewScene (key m .scene-key .ensures i) (m .member .ensures i) t))
+    (λ i. viewScene (key m .scene-key .ensures i) (m .member .ensures i) t)) (view-state _ _ t)
 
 pub view-spec : {M : Type 1} → statement M
 view-spec =

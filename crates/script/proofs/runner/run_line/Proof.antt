@@ -17,30 +17,31 @@ use Rattle.script.proofs.runner.run_line.Tie as tie
 
 -- the places that the proof refers to, each from a later one
 abbrev start : tie.After-counted → tie.Start
-start c = c .before .before .before .before .before .before .before .before
+start c = c .before .before .before .before .before .before .before .before .before
 
 abbrev counting : tie.After-read-line → tie.After-counted
 counting c = c .before .before
 
-abbrev reading : tie.After-slice-known8 → tie.After-read-line
+abbrev reading : tie.After-slice-known9 → tie.After-read-line
 reading c = c .before .before
 
 abbrev verdict : tie.After-wrong → tie.After-verdict
 verdict c = c .before .before .before
 
-abbrev refused : tie.After-slice-known9 → tie.After-wrong
+abbrev refused : tie.After-slice-known10 → tie.After-wrong
 refused c = c .before .before
 
 abbrev told : tie.After-obeyed → tie.After-enum-told2
-told c = c .before .before .before .before .before .before .before .before
+told c = c .before .before .before .before .before .before .before .before .before
 
-abbrev obeying : tie.After-slice-known15 → tie.After-obeyed
-obeying c = c .before .before .before .before .before .before .before .before .before .before .before .before
+abbrev obeying : tie.After-slice-known17 → tie.After-obeyed
+obeying c = c .before .before .before .before .before .before .before .before .before .before .before .before .before .before
 
 -- all that came in, at a machine and with a line
 abbrev came : tie.Start → List ℕ → Machine → Session
 came s line m =
-    let a = s .args in session m (a .keys .now) (a .times .now) (a .fields .now) (a .records .now) (a .buffer .now) line (sheet (a .out .now) (a .at))
+    let a = s .args in
+    session m (a .keys .now) (a .times .now) (a .fields .now) (a .records .now) (a .words .now) (a .buffer .now) line (sheet (a .out .now) (a .at))
 
 -- what was read says what the line says, and the line is left as it was read
 says : (c : tie.Start) (m : Machine) (read : Line) (after : List ℕ) → m ≡ counted (c .args .machine)
@@ -75,7 +76,7 @@ returns-2 c =
     let v = verdict (refused c) in
     let r = reading (v .before .before) in
     let m = counting r .counted in
-    ended (m .result) (m .result) _ _ _ _ _ _ _ _ _ _ _ (refused c .wrong .ensures)
+    ended (m .result) (m .result) _ _ _ _ _ _ _ _ _ _ _ _ (refused c .wrong .ensures)
     ∙ (λ i. wrong (v .verdict .given .0 .0) (now-read r (m .ensures i)))
     ∙ runs r _ (v .verdict .given .1)
 
@@ -83,8 +84,9 @@ returns-2 c =
 abbrev left : tie.After-obeyed → Session
 left c =
     let o = c .obeyed in
-    session (o .result .machine) (o .last .1 .0) (o .last .1 .1 .0) (o .last .1 .1 .1 .0) (o .last .1 .1 .1 .1 .0) (o .last .1 .1 .1 .1 .1 .0)
-    (reading (told c .before .before) .read-line .last .0) (sheet (o .last .1 .1 .1 .1 .1 .1 .1 .0) (o .result .at))
+    let l = o .last .1 .1 .1 .1 in
+    session (o .result .machine) (o .last .1 .0) (o .last .1 .1 .0) (o .last .1 .1 .1 .0) (l .0) (l .1 .0) (l .1 .1 .0)
+    (reading (told c .before .before) .read-line .last .0) (sheet (l .1 .1 .1 .1 .0) (o .result .at))
 
 returns-3 : tie.Need-returns-3
 returns-3 c =
@@ -115,6 +117,7 @@ run-line-spec =
     (λ c. search needs)
     (λ c. search needs)
     returns-2
+    (λ c. search needs)
     (λ c. search needs)
     (λ c. search needs)
     (λ c. search needs)

@@ -24,7 +24,7 @@ tail3 c = c .before .before .before
 abbrev tail4 : tie.After-put-image → tie.After-tail4
 tail4 c = c .before .before .before
 
-abbrev tail5 : tie.After-put-compared → tie.After-tail5
+abbrev tail5 : tie.After-put-trace-number → tie.After-tail5
 tail5 c = c .before .before .before
 
 put-scene-requires : tie.Need-put-scene-requires
@@ -49,7 +49,7 @@ returns-6 : tie.Need-returns-6
 returns-6 c = let put = c .before .before in rw (tail4 put .tail4 .given .1) (put .put-image .ensures)
 
 returns-7 : tie.Need-returns-7
-returns-7 c = let put = c .before .before in rw (tail5 put .tail5 .given .1) (put .put-compared .ensures)
+returns-7 c = let put = c .before .before in rw (tail5 put .tail5 .given .1) (put .put-trace-number .ensures)
 
 pub put-tail-spec : {M : Type 1} → statement M
 put-tail-spec =

@@ -1,7 +1,7 @@
 -- `script_lines::reader::kinds_of` meets its contract. Assumes nothing.
 use mathlib.Core.Logic.{⊎-elim, inl, inr}
 use borrow.Author.Tests.{ne-eqb}
-use Rattle.script_lines.specs.Lines.{kindsOf}
+use Rattle.script_lines.specs.Lines.{oneOf, kindsOf}
 use borrow.Author.Needs.{needs}
 use Rattle.script_lines.proofs.reader.kinds_of.Statement.{statement}
 use Rattle.script_lines.proofs.reader.kinds_of.Tie as tie
@@ -75,16 +75,21 @@ unfolding kindsOf
 returns-17 c = rw (c .before .match .keys17) (c .scene-and7 .ensures)
 
 returns-18 : tie.Need-returns-18
-unfolding kindsOf
-returns-18 c =
+unfolding kindsOf oneOf
+returns-18 c = ⊎-elim (λ e. rw e) (⊎-elim (λ e. rw e) (⊎-elim (λ e. rw e) (λ e. rw e))) (c .match .keys18)
+
+returns-19 : tie.Need-returns-19
+unfolding kindsOf oneOf
+returns-19 c =
     let no = c .match .rest in
     rw (
+      ne-eqb _ _ (no .0 .0 .0 .0 .0 .0 .0 .0 .0 .0 .0 .0 .0 .0 .0 .0 .0 .1),
       ne-eqb _ _ (no .0 .0 .0 .0 .0 .0 .0 .0 .0 .0 .0 .0 .0 .0 .0 .0 .1),
       ne-eqb _ _ (no .0 .0 .0 .0 .0 .0 .0 .0 .0 .0 .0 .0 .0 .0 .0 .1),
       ne-eqb _ _ (no .0 .0 .0 .0 .0 .0 .0 .0 .0 .0 .0 .0 .0 .0 .1),
-      ne-eqb _ _ (no .0 .0 .0 .0 .0 .0 .0 .0 .0 .0 .0 .0 .0 .1),
-      ne-eqb _ 86 (λ e. no .0 .0 .0 .0 .0 .0 .0 .0 .0 .0 .0 .0 .1 (inr e)),
-      ne-eqb _ 82 (λ e. no .0 .0 .0 .0 .0 .0 .0 .0 .0 .0 .0 .0 .1 (inl e)),
+      ne-eqb _ 86 (λ e. no .0 .0 .0 .0 .0 .0 .0 .0 .0 .0 .0 .0 .0 .1 (inr e)),
+      ne-eqb _ 82 (λ e. no .0 .0 .0 .0 .0 .0 .0 .0 .0 .0 .0 .0 .0 .1 (inl e)),
+      ne-eqb _ _ (no .0 .0 .0 .0 .0 .0 .0 .0 .0 .0 .0 .0 .1),
       ne-eqb _ _ (no .0 .0 .0 .0 .0 .0 .0 .0 .0 .0 .0 .1),
       ne-eqb _ _ (no .0 .0 .0 .0 .0 .0 .0 .0 .0 .0 .1),
       ne-eqb _ _ (no .0 .0 .0 .0 .0 .0 .0 .0 .0 .1),
@@ -93,11 +98,14 @@ returns-18 c =
       ne-eqb _ _ (no .0 .0 .0 .0 .0 .0 .1),
       ne-eqb _ _ (no .0 .0 .0 .0 .0 .1),
       ne-eqb _ _ (no .0 .0 .0 .0 .1),
-      ne-eqb _ _ (no .0 .0 .0 .1),
-      ne-eqb _ 71 (λ e. no .0 .0 .1 (inl e)),
-      ne-eqb _ 89 (λ e. no .0 .0 .1 (inr e)),
+      ne-eqb _ 71 (λ e. no .0 .0 .0 .1 (inl e)),
+      ne-eqb _ 89 (λ e. no .0 .0 .0 .1 (inr e)),
+      ne-eqb _ _ (no .0 .0 .1),
       ne-eqb _ _ (no .0 .1),
-      ne-eqb _ _ (no .1),
+      ne-eqb _ 74 (λ e. no .1 (inr (inl e))),
+      ne-eqb _ 81 (λ e. no .1 (inr (inr (inl e)))),
+      ne-eqb _ 72 (λ e. no .1 (inl e)),
+      ne-eqb _ 109 (λ e. no .1 (inr (inr (inr e)))),
     )
 
 pub kinds-of-spec : {M : Type 1} → statement M
@@ -129,4 +137,5 @@ kinds-of-spec =
     returns-15
     returns-16
     returns-17
-    returns-18)
+    returns-18
+    returns-19)

@@ -32,17 +32,17 @@ returns-6 : tie.Need-returns-6
 returns-6 c = let t = c .before .before in rw (t .enum-told4 .given .1) (number-read (came (t .before .before)) (c .number3 .ensures))
 
 returns-7 : tie.Need-returns-7
-returns-7 c = let t = c .before .before in rw (t .enum-told5 .given .1) (number-read (came (t .before .before)) (c .number4 .ensures))
+returns-7 c = let t = c .before .before in rw (t .enum-told5 .given .1) (number-read (came (t .before .before)) (c .membership .ensures))
 
 returns-8 : tie.Need-returns-8
-returns-8 c = let t = c .before .before in rw (t .enum-told6 .given .1) (number-read (came (t .before .before)) (c .number5 .ensures))
+returns-8 c = let t = c .before .before in rw (t .enum-told6 .given .1) (number-read (came (t .before .before)) (c .number4 .ensures))
 
 returns-9 : tie.Need-returns-9
 returns-9 c =
     let most = c .before in
     let t = most .before .before in
     let w = came (t .before .before) in
-    rw (t .enum-told7 .given .1) (number-read w (c .number6 .ensures ∙ ap (λ (m : ℕ). numberOf m w) (most .most-scenes .ensures)))
+    rw (t .enum-told7 .given .1) (number-read w (c .number5 .ensures ∙ ap (λ (m : ℕ). numberOf m w) (most .most-scenes .ensures)))
 
 returns-10 : tie.Need-returns-10
 returns-10 c = let t = c .before .before in rw (t .enum-told8 .given .1) (number-read (came (t .before .before)) (c .modes .ensures))
@@ -68,7 +68,7 @@ returns-14 : tie.Need-returns-14
 returns-14 c =
     let e = c .before .before in
     let t = e .before .before in
-    rw (t .kind .given .1, ne-eqb _ _ (e .if2 .left)) (number-read (came (t .before .before)) (c .number7 .ensures))
+    rw (t .kind .given .1, ne-eqb _ _ (e .if2 .left)) (number-read (came (t .before .before)) (c .number6 .ensures))
 
 pub read-word-spec : {M : Type 1} → statement M
 read-word-spec =

@@ -8,7 +8,7 @@ use Rattle.script_machine.proofs.Machine.counted.Tie as tie
 
 -- a machine with another number of lines
 abbrev numbered : Machine → ℕ → Machine
-numbered m n = record { state = m .state; present = m .present; trace = m .trace; lines = n }
+numbered m n = record { state = m .state; groups = m .groups; present = m .present; trace = m .trace; lines = n }
 
 returns : tie.Need-returns
 returns c = ap (numbered (c .before .args .self)) (c .wrapping-add-u64 .ensures)

@@ -7,4 +7,4 @@ returns : tie.Need-returns
 returns c = record { machine = cc; output = c .before .before .put-size .ensures }
 
 pub sized-spec : {M : Type 1} → statement M
-sized-spec = tie.close (tie.spec (λ c κs. search needs) (λ c κs. search needs) (λ c. search needs) returns)
+sized-spec = tie.close (tie.spec (λ c κs. search needs) (λ c κs. search needs) (λ c κs. search needs) (λ c. search needs) returns)
