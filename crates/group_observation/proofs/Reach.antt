@@ -13,10 +13,12 @@ use Rattle.words.specs.Words.{groupOf, within, fabricKeys}
 use Rattle.words.specs.declared.GroupKey.{GroupKey}
 use Rattle.words.specs.declared.KeyRange.{KeyRange}
 use Rattle.requests.specs.Requests.{fabricGate}
+use Rattle.state.specs.Table.{Table}
+use Rattle.state.specs.Sound.{sound}
 use Rattle.lifecycle.specs.Lifecycle.{removeForFabric, factoryReset}
 use Rattle.groups.specs.Groups.{Groups, groupWord, groupsSound, groupsGate, ungroupedGate, wordsIn, isMember, Joined, joinedOf, joinGate, withMember, joinGroup, retainGroups, noGroups}
 use Rattle.groups.proofs.Laws.{groups-few, join-refused, join-held, join-full, join-new}
-use Rattle.asking.specs.Asking.{Both, bothRefused, following, leaveGate, removeForFabricBoth, factoryResetBoth}
+use Rattle.asking.specs.Asking.{Both, bothRefused, following, leaveGate, leaveGroup, removeForFabricBoth, factoryResetBoth}
 use Rattle.observation.specs.Lists.{bit, count, find}
 use Rattle.observation.specs.Calls.{groupKey}
 use Rattle.observation.specs.Equivalence as scenes
@@ -28,6 +30,7 @@ use Rattle.observation.proofs.Reach as reach
 use Rattle.observation.proofs.Theorem.{demand3}
 use Rattle.group_observation.specs.Nodes.{Node, Command, add, addRead, view, remove, removeAll, store, recall, copy, membership, info, join, leave, Call, command, removal, reset, onScenes, Out, does, step, next, InRange}
 use Rattle.group_observation.specs.Equivalence.{Reached, begun, after, WithInputs}
+use Rattle.group_observation.specs.Promises.{StaysSound}
 use Rattle.requests.proofs.Passed.{first-pass, if-pass, fabric-pass}
 use Rattle.group_observation.proofs.Words.{isWord, member-has, word-in-range, joined-words, joined-sound, kept-words, kept-sound, none-words, none-sound}
 use Rattle.group_observation.proofs.Asks.{asking-sound, asks, told, left, stays, moved}
@@ -110,16 +113,7 @@ module _ (k : GroupKey) (g : Groups) (fair : Fair g) (hf : k .fabric < 2 ^ 8) (h
             ap (count (λ w. eqb (groupOf w) 0)) ws ∙ omega (arith, count-append (λ w. eqb (groupOf w) 0) (wordsIn g) (groupWord k ∷ []), fair .grouped, ap bit n);
       }
 
-  pub joined-fair : Fair (joinGroup k g .groups)
-  joined-fair = go (joining k g (fair .intact))
-    where
-      go : Joining k g → Fair (joinGroup k g .groups)
-      go (turned n e) = subst (λ (j : Joined). Fair (j .groups)) (sym e) fair
-      go (again p m e) = subst (λ (j : Joined). Fair (j .groups)) (sym e) fair
-      go (full p m h e) = subst (λ (j : Joined). Fair (j .groups)) (sym e) fair
-      go (new p m h e) = subst (λ (j : Joined). Fair (j .groups)) (sym e) (new-fair (joins k g p) m h)
-
-pub kept-fair : (r : KeyRange) (g : Groups) → Fair g → Fair (retainGroups r g)
+kept-fair : (r : KeyRange) (g : Groups) → Fair g → Fair (retainGroups r g)
 kept-fair r g fair =
     let less : (p : ℕ → Bool) → count p (wordsIn (retainGroups r g)) ≤ count p (wordsIn g) =
     λ p. omega (arith, ap (count p) (kept-words r g (fair .intact)), count-keep-le p (λ w. not (within r w)) (wordsIn g)) in
@@ -136,54 +130,93 @@ none-fair g fair = record {
   grouped = ap (count (λ w. eqb (groupOf w) 0)) (none-words g);
 }
 
--- ---- nodes
+-- ---- what a call leaves of the memberships
+
+-- P holds of the memberships, of one more, of those outside a range, and of none
+pub record Follows (P : Groups → Type 0) (g : Groups) : Type 0 where
+  pub same : P g
+  pub more : (k : GroupKey) → k .fabric < 2 ^ 8 → k .endpoint < 2 ^ 16 → k .group < 2 ^ 16 → Joins k → isMember k g ≡ false
+      → g .state .held < maxMemberships → P (withMember k g)
+  pub fewer : (r : KeyRange) → P (retainGroups r g)
+  pub none : P (noGroups g)
+
+module _ (n : Node) (s : sound (n .scenes) ≡ true) (sd : groupsSound (n .groups) ≡ true) (P : Groups → Type 0) (f : Follows P (n .groups)) where
+  abbrev gs : Groups
+  gs = n .groups
+
+  asked-groups : (fabric e : ℕ) (c : Command) → asks c ≡ true → P (next (command fabric e c) n .groups)
+  unfolding step
+  asked-groups fabric e c q = subst (λ (o : Out). P (o .1 .groups)) (sym (told gs sd (n .scenes) fabric e c q)) (f .same)
+
+  joined-groups : (k : GroupKey) → k .fabric < 2 ^ 8 → k .endpoint < 2 ^ 16 → k .group < 2 ^ 16 → P (joinGroup k gs .groups)
+  joined-groups k hf he hg = go (joining k gs sd)
+    where
+      go : Joining k gs → P (joinGroup k gs .groups)
+      go (turned z e) = subst (λ (j : Joined). P (j .groups)) (sym e) (f .same)
+      go (again p m e) = subst (λ (j : Joined). P (j .groups)) (sym e) (f .same)
+      go (full p m h e) = subst (λ (j : Joined). P (j .groups)) (sym e) (f .same)
+      go (new p m h e) = subst (λ (j : Joined). P (j .groups)) (sym e) (f .more k hf he hg (joins k gs p) m h)
+
+  left-groups : (key : GroupKey) → P (leaveGroup key gs (n .scenes) .groups)
+  left-groups key =
+      (elim (eqb (leaveGate key gs) success) as (λ b. eqb (leaveGate key gs) success ≡ b → P (leaveGroup key gs (n .scenes) .groups)) [
+        | true ↦ λ z. subst (λ (b : Both). P (b .groups)) (sym (left key gs sd (n .scenes) s (eqb-true (leaveGate key gs) success z))) (f .fewer _)
+        | false ↦ λ z. subst (λ (b : Both). P (b .groups)) (sym (stays key gs sd (n .scenes) s (eqb-false (leaveGate key gs) success z))) (f .same)
+      ]) refl
+
+  pub step-groups : (c : Call) → InRange c → P (next c n .groups)
+  unfolding step does removeForFabricBoth factoryResetBoth
+  step-groups (command x e (add g k time pairs ext)) w = asked-groups x e (add g k time pairs ext) refl
+  step-groups (command x e (addRead g k time pairs ext)) w = asked-groups x e (addRead g k time pairs ext) refl
+  step-groups (command x e (view g k)) w = asked-groups x e (view g k) refl
+  step-groups (command x e (remove g k)) w = asked-groups x e (remove g k) refl
+  step-groups (command x e (removeAll g)) w = asked-groups x e (removeAll g) refl
+  step-groups (command x e (store g k captured)) w = asked-groups x e (store g k captured) refl
+  step-groups (command x e (recall g k o a)) w = asked-groups x e (recall g k o a) refl
+  step-groups (command x e (copy mode g k h r)) w = asked-groups x e (copy mode g k h r) refl
+  step-groups (command x e (membership g buffer)) w = asked-groups x e (membership g buffer) refl
+  step-groups (command x e (info single)) w = asked-groups x e (info single) refl
+  step-groups (command x e (join g)) w = joined-groups (groupKey x e g) (w .0) (w .1) (w .2)
+  step-groups (command x e (leave g)) w = left-groups (groupKey x e g)
+  step-groups (removal x) w =
+      subst (λ (b : Both). P (b .groups)) (sym (asking-sound gs sd (bothRefused gs (n .scenes)) (following (removeForFabric x (n .scenes)) (retainGroups (fabricKeys x) gs) gs)))
+      (cond-elim P (eqb (removeForFabric x (n .scenes) .status) success) (λ _. f .fewer (fabricKeys x)) (λ _. f .same))
+  step-groups reset w =
+      subst (λ (b : Both). P (b .groups)) (sym (asking-sound gs sd (bothRefused gs (n .scenes)) (following (factoryReset (n .scenes)) (noGroups gs) gs)))
+      (cond-elim P (eqb (factoryReset (n .scenes) .status) success) (λ _. f .none) (λ _. f .same))
+  step-groups (onScenes c) w = f .same
+
+-- ---- sound nodes, and reached ones
+
+-- a sound node stays sound through every call
+pub node-stays-sound : StaysSound
+node-stays-sound c n w s sd =
+    let m = moved n sd s c w in (
+      subst (λ (t : Table). sound t ≡ true) (sym (m .is)) (laws .step-sound (m .by) (n .scenes) (m .fits) s),
+      step-groups n s sd (λ g. groupsSound g ≡ true) (record {
+        same = sd;
+        more = λ k hf he hg j _ h. joined-sound k (n .groups) sd h (word-in-range k (j .fabric) hf he hg);
+        fewer = λ r. kept-sound r (n .groups) sd;
+        none = none-sound (n .groups) sd;
+      }) c w,
+    )
 
 pub record Standing (n : Node) : Type 0 where
   pub scenes : reach.Standing (n .scenes)
   pub fair : Fair (n .groups)
 
 module _ (n : Node) (st : Standing n) where
-  abbrev gs : Groups
-  gs = n .groups
-
   abbrev sd : groupsSound (n .groups) ≡ true
   sd = st .fair .intact
 
-  asked-fair : (f e : ℕ) (c : Command) → asks c ≡ true → Fair (next (command f e c) n .groups)
-  unfolding step
-  asked-fair f e c q = subst (λ (o : Out). Fair (o .1 .groups)) (sym (told gs sd (n .scenes) f e c q)) (st .fair)
-
-  left-fair : (f e g : ℕ) → Fair (next (command f e (leave g)) n .groups)
-  unfolding step does
-  left-fair f e g =
-      let key = groupKey f e g in
-      (elim (eqb (leaveGate key gs) success) as (λ b. eqb (leaveGate key gs) success ≡ b → Fair (next (command f e (leave g)) n .groups)) [
-        | true ↦ λ z.
-            subst (λ (b : Both). Fair (b .groups)) (sym (left key gs sd (n .scenes) (st .scenes .intact) (eqb-true (leaveGate key gs) success z))) (kept-fair _ gs (st .fair))
-        | false ↦ λ z. subst (λ (b : Both). Fair (b .groups)) (sym (stays key gs sd (n .scenes) (st .scenes .intact) (eqb-false (leaveGate key gs) success z))) (st .fair)
-      ]) refl
-
-  pub step-fair : (c : Call) → InRange c → Fair (next c n .groups)
-  unfolding step does removeForFabricBoth factoryResetBoth
-  step-fair (command f e (add g k time pairs ext)) w = asked-fair f e (add g k time pairs ext) refl
-  step-fair (command f e (addRead g k time pairs ext)) w = asked-fair f e (addRead g k time pairs ext) refl
-  step-fair (command f e (view g k)) w = asked-fair f e (view g k) refl
-  step-fair (command f e (remove g k)) w = asked-fair f e (remove g k) refl
-  step-fair (command f e (removeAll g)) w = asked-fair f e (removeAll g) refl
-  step-fair (command f e (store g k captured)) w = asked-fair f e (store g k captured) refl
-  step-fair (command f e (recall g k o a)) w = asked-fair f e (recall g k o a) refl
-  step-fair (command f e (copy mode g k h r)) w = asked-fair f e (copy mode g k h r) refl
-  step-fair (command f e (membership g buffer)) w = asked-fair f e (membership g buffer) refl
-  step-fair (command f e (info single)) w = asked-fair f e (info single) refl
-  step-fair (command f e (join g)) w = joined-fair (groupKey f e g) gs (st .fair) (w .0) (w .1) (w .2)
-  step-fair (command f e (leave g)) w = left-fair f e g
-  step-fair (removal f) w =
-      subst (λ (b : Both). Fair (b .groups)) (sym (asking-sound gs sd (bothRefused gs (n .scenes)) (following (removeForFabric f (n .scenes)) (retainGroups (fabricKeys f) gs) gs)))
-      (cond-elim Fair (eqb (removeForFabric f (n .scenes) .status) success) (λ _. kept-fair (fabricKeys f) gs (st .fair)) (λ _. st .fair))
-  step-fair reset w =
-      subst (λ (b : Both). Fair (b .groups)) (sym (asking-sound gs sd (bothRefused gs (n .scenes)) (following (factoryReset (n .scenes)) (noGroups gs) gs)))
-      (cond-elim Fair (eqb (factoryReset (n .scenes) .status) success) (λ _. none-fair gs (st .fair)) (λ _. st .fair))
-  step-fair (onScenes c) w = st .fair
+  step-fair : (c : Call) → InRange c → Fair (next c n .groups)
+  step-fair =
+      step-groups n (st .scenes .intact) sd Fair (record {
+        same = st .fair;
+        more = λ k hf he hg j m h. new-fair k (n .groups) (st .fair) hf he hg j m h;
+        fewer = λ r. kept-fair r (n .groups) (st .fair);
+        none = none-fair (n .groups) (st .fair);
+      })
 
   pub step-standing : (c : Call) → InRange c → Standing (next c n)
   step-standing c w =

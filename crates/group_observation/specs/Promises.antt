@@ -1,5 +1,5 @@
 -- What the calls on scenes and memberships promise, whatever their values: a fabric's removal leaves nothing of it, each call answers one of few numbers, a
--- refusal changes nothing, and 6 comes before all else. Document 02, Q-7, and demand 1.
+-- refusal changes nothing, 6 comes before all else, and what is sound stays sound. Document 02, Q-7, and demand 1.
 use Prim.Native.Nat.{ℕ, _≤_}
 use mathlib.Core.Path.{_≡_}
 use mathlib.Core.Bool.{Bool, true, false, not}
@@ -16,7 +16,7 @@ use Rattle.observation.specs.Numbers.{Among}
 use Rattle.observation.specs.Calls.{groupKey, copyRequest}
 use Rattle.observation.specs.Equivalence.{mine, ofFabric}
 use Rattle.observation.specs.Refusals as refusals
-use Rattle.group_observation.specs.Nodes.{Node, Command, add, addRead, view, remove, removeAll, store, recall, copy, membership, info, join, leave, Call, command, removal, reset, onScenes, step, answer, next}
+use Rattle.group_observation.specs.Nodes.{Node, Command, add, addRead, view, remove, removeAll, store, recall, copy, membership, info, join, leave, Call, command, removal, reset, onScenes, step, answer, next, InRange}
 
 -- ---- a fabric's removal
 
@@ -122,3 +122,11 @@ lent (onScenes c) = false
 abbrev pub UnsoundRun : Type 0
 UnsoundRun =
     (n : Node) → groupsSound (n .groups) ≡ false → (c : Call) → lent c ≡ true → step c n ≡ (record { status = unsound; save = false; values = []; ids = [] }, n)
+
+-- ---- sound nodes
+
+-- every call leaves a sound node sound, so that a host which alone writes its memory need not test it
+abbrev pub StaysSound : Type 0
+StaysSound =
+    (c : Call) (n : Node) → InRange c → sound (n .scenes) ≡ true → groupsSound (n .groups) ≡ true
+    → (sound (next c n .scenes) ≡ true) × (groupsSound (next c n .groups) ≡ true)

@@ -30,8 +30,8 @@ pub const MAX_MEMBERSHIPS: usize = 256;
 /// ```
 ///
 /// Its calls that ask or change memberships test the table and the memberships: [`Error::Unsound`] if a stray write has damaged either.
-// INVARIANT: the table is sound, as `Scenes` has it. What asks is, by its definition, the call of its name that is told the membership, and
-// what changes both is to the table a remove all, a fabric's removal or a factory reset. The memory is lent to these and to calls of `Scenes`.
+// INVARIANT: the table is sound, as `Scenes` has it: calls that ask and calls that change both leave a sound table sound too (`StaysSound` of
+// crates/group_observation/specs/Promises.antt). The memory is lent to these and to calls of `Scenes`.
 #[derive(Clone, Debug, PartialEq, Eq)]
 pub struct GroupedScenes<const N: usize> {
     pub(crate) scenes: Scenes<N>,
