@@ -117,7 +117,8 @@ join-is-quiet f e g n = (refl, refl)
 -- ---- the numbers
 
 -- 6, or what the call that is told answers
-asked-among : {A : Type 0} (P : ℕ → Type 0) (status : A → ℕ) (g : Groups) (refuse : ℕ → A) (o : A) → P (status (refuse unsound)) → P (status o) → P (status (asking g refuse o))
+asked-among : {A : Type 0} (P : ℕ → Type 0) (status : A → ℕ) (g : Groups) (refuse : ℕ → A) (o : A)
+    → P (status (refuse unsound)) → P (status o) → P (status (asking g refuse o))
 unfolding asking
 asked-among P status g refuse o six p = either (λ a. P (status a)) (groupsSound g) p six
 
@@ -177,37 +178,54 @@ command-among : (f e : ℕ) (c : Command) (n : Node) → Among (promises.numbers
 unfolding step does addAsking addReadAsking storeAsking storeCounted counted removeAsking removeAllAsking recallAsking lookupAsking viewAsking copyAsking membershipAsking
 command-among f e (add g s time pairs ext) n =
     asked-among (Among (0 ∷ 1 ∷ 6 ∷ 7 ∷ 0x85 ∷ 0x87 ∷ 0x89 ∷ [])) (λ (r : Result). r .status) (n .groups) _ _ refl
-    (held-among (groupKey f e g) (n .groups) (λ m. addScene (sceneKey f e g s) time m pairs ext (n .scenes) .status) (λ l. 0 ∷ 1 ∷ 6 ∷ 7 ∷ 0x85 ∷ 0x87 ∷ 0x89 ∷ l) (λ m. numbers.add-numbers (sceneKey f e g s) m (n .scenes) time pairs ext))
+    (held-among (groupKey f e g) (n .groups) (λ m. addScene (sceneKey f e g s) time m pairs ext (n .scenes) .status)
+    (λ l. 0 ∷ 1 ∷ 6 ∷ 7 ∷ 0x85 ∷ 0x87 ∷ 0x89 ∷ l)
+    (λ m. numbers.add-numbers (sceneKey f e g s) m (n .scenes) time pairs ext))
 command-among f e (addRead g s time pairs ext) n =
     asked-among (Among (0 ∷ 1 ∷ 6 ∷ 7 ∷ 11 ∷ 0x85 ∷ 0x87 ∷ 0x89 ∷ [])) (λ (r : Result). r .status) (n .groups) _ _ refl
-    (held-among (groupKey f e g) (n .groups) (λ m. addSceneRead (sceneKey f e g s) time m pairs ext (n .scenes) .status) (λ l. 0 ∷ 1 ∷ 6 ∷ 7 ∷ 11 ∷ 0x85 ∷ 0x87 ∷ 0x89 ∷ l) (λ m. numbers.addRead-numbers (sceneKey f e g s) m (n .scenes) time pairs ext))
+    (held-among (groupKey f e g) (n .groups) (λ m. addSceneRead (sceneKey f e g s) time m pairs ext (n .scenes) .status)
+    (λ l. 0 ∷ 1 ∷ 6 ∷ 7 ∷ 11 ∷ 0x85 ∷ 0x87 ∷ 0x89 ∷ l)
+    (λ m. numbers.addRead-numbers (sceneKey f e g s) m (n .scenes) time pairs ext))
 command-among f e (view g s) n =
     asked-among (Among (0 ∷ 1 ∷ 6 ∷ 0x85 ∷ 0x87 ∷ 0x8B ∷ [])) (λ (r : SceneRead). r .status) (n .groups) _ _ refl
-    (held-among (groupKey f e g) (n .groups) (λ m. viewScene (sceneKey f e g s) m (n .scenes) .status) (λ l. 0 ∷ 1 ∷ 6 ∷ 0x85 ∷ 0x87 ∷ 0x8B ∷ l) (λ m. numbers.view-numbers (sceneKey f e g s) m (n .scenes)))
+    (held-among (groupKey f e g) (n .groups) (λ m. viewScene (sceneKey f e g s) m (n .scenes) .status)
+    (λ l. 0 ∷ 1 ∷ 6 ∷ 0x85 ∷ 0x87 ∷ 0x8B ∷ l)
+    (λ m. numbers.view-numbers (sceneKey f e g s) m (n .scenes)))
 command-among f e (remove g s) n =
     asked-among (Among (0 ∷ 1 ∷ 6 ∷ 0x85 ∷ 0x87 ∷ 0x8B ∷ [])) (λ (r : Result). r .status) (n .groups) _ _ refl
-    (held-among (groupKey f e g) (n .groups) (λ m. removeScene (sceneKey f e g s) m (n .scenes) .status) (λ l. 0 ∷ 1 ∷ 6 ∷ 0x85 ∷ 0x87 ∷ 0x8B ∷ l) (λ m. numbers.remove-numbers (sceneKey f e g s) m (n .scenes)))
+    (held-among (groupKey f e g) (n .groups) (λ m. removeScene (sceneKey f e g s) m (n .scenes) .status)
+    (λ l. 0 ∷ 1 ∷ 6 ∷ 0x85 ∷ 0x87 ∷ 0x8B ∷ l)
+    (λ m. numbers.remove-numbers (sceneKey f e g s) m (n .scenes)))
 command-among f e (removeAll g) n =
     asked-among (Among (0 ∷ 1 ∷ 6 ∷ 0x85 ∷ [])) (λ (r : Result). r .status) (n .groups) _ _ refl
-    (held-among (groupKey f e g) (n .groups) (λ m. removeAllScenes (groupKey f e g) m (n .scenes) .status) (λ l. 0 ∷ 1 ∷ 6 ∷ 0x85 ∷ l) (λ m. numbers.removeAll-numbers (groupKey f e g) m (n .scenes)))
+    (held-among (groupKey f e g) (n .groups) (λ m. removeAllScenes (groupKey f e g) m (n .scenes) .status)
+    (λ l. 0 ∷ 1 ∷ 6 ∷ 0x85 ∷ l)
+    (λ m. numbers.removeAll-numbers (groupKey f e g) m (n .scenes)))
 command-among f e (store g s captured) n =
     asked-among (Among (0 ∷ 1 ∷ 3 ∷ 6 ∷ 0x85 ∷ 0x87 ∷ 0x89 ∷ [])) (λ (r : Counted). r .result .status) (n .groups) _ _ refl
-    (held-among (groupKey f e g) (n .groups) (λ m. storeScene (sceneKey f e g s) m captured (n .scenes) .status) (λ l. 0 ∷ 1 ∷ 3 ∷ 6 ∷ 0x85 ∷ 0x87 ∷ 0x89 ∷ l) (λ m. numbers.store-numbers (sceneKey f e g s) m (n .scenes) captured))
+    (held-among (groupKey f e g) (n .groups) (λ m. storeScene (sceneKey f e g s) m captured (n .scenes) .status)
+    (λ l. 0 ∷ 1 ∷ 3 ∷ 6 ∷ 0x85 ∷ 0x87 ∷ 0x89 ∷ l)
+    (λ m. numbers.store-numbers (sceneKey f e g s) m (n .scenes) captured))
 command-among f e (recall g s o a) n =
     let key = sceneKey f e g s in
     let u = withState (lookupAsking key o (n .groups) (n .scenes) .state) (n .scenes) in
     asked-among (Among (0 ∷ 1 ∷ 4 ∷ 6 ∷ 0x85 ∷ 0x87 ∷ 0x8B ∷ [])) (λ (r : Result). r .status) (n .groups) _ _ refl
-    (held-among (groupKey f e g) (n .groups) (λ m. recallScene key m a u .status) (λ l. 0 ∷ 1 ∷ 4 ∷ 6 ∷ 0x85 ∷ 0x87 ∷ 0x8B ∷ l) (λ m. numbers.recall-numbers key m u a))
+    (held-among (groupKey f e g) (n .groups) (λ m. recallScene key m a u .status)
+    (λ l. 0 ∷ 1 ∷ 4 ∷ 6 ∷ 0x85 ∷ 0x87 ∷ 0x8B ∷ l)
+    (λ m. numbers.recall-numbers key m u a))
 command-among f e (copy mode g s h r) n =
     let c = copyRequest f e mode g s h r in
     let source = memberOf (groupKey f e g) (n .groups) in
     asked-among (Among (0 ∷ 1 ∷ 6 ∷ 0x85 ∷ 0x87 ∷ 0x89 ∷ 0x8B ∷ [])) (λ (x : Result). x .status) (n .groups) _ _ refl
     (held-among (groupKey f e h) (n .groups) (λ m. copyScene c source m (n .scenes) .status) (λ l. 0 ∷ 1 ∷ 6 ∷ 0x85 ∷ 0x87 ∷ 0x89 ∷ 0x8B ∷ l) (λ m.
-    held-among (groupKey f e g) (n .groups) (λ k. copyScene c k m (n .scenes) .status) (λ l. 0 ∷ 1 ∷ 6 ∷ 0x85 ∷ 0x87 ∷ 0x89 ∷ 0x8B ∷ l ++ failing m) (λ k.
+    held-among (groupKey f e g) (n .groups) (λ k. copyScene c k m (n .scenes) .status)
+    (λ l. 0 ∷ 1 ∷ 6 ∷ 0x85 ∷ 0x87 ∷ 0x89 ∷ 0x8B ∷ l ++ failing m) (λ k.
     numbers.copy-numbers c k m (n .scenes))))
 command-among f e (membership g buffer) n =
     asked-among (Among (0 ∷ 1 ∷ 6 ∷ 8 ∷ 0x85 ∷ [])) (λ (r : Listed). r .read .status) (n .groups) _ _ refl
-    (held-among (groupKey f e g) (n .groups) (λ m. getSceneMembership (groupKey f e g) m buffer (n .scenes) .read .status) (λ l. 0 ∷ 1 ∷ 6 ∷ 8 ∷ 0x85 ∷ l) (λ m. numbers.membership-numbers (groupKey f e g) m (n .scenes) buffer))
+    (held-among (groupKey f e g) (n .groups) (λ m. getSceneMembership (groupKey f e g) m buffer (n .scenes) .read .status)
+    (λ l. 0 ∷ 1 ∷ 6 ∷ 8 ∷ 0x85 ∷ l)
+    (λ m. numbers.membership-numbers (groupKey f e g) m (n .scenes) buffer))
 command-among f e (info single) n = numbers.info-numbers f e single (n .scenes)
 command-among f e (join g) n = join-among (groupKey f e g) (n .groups)
 command-among f e (leave g) n = leave-among (groupKey f e g) (n .groups) (n .scenes)
@@ -280,7 +298,8 @@ module _ (n : Node) (sd : groupsSound (n .groups) ≡ true) where
       go (full p m h j) = ap (λ (x : Joined). x .groups) j
       go (new p m h j) = absurd (fails (ap (λ (x : Joined). x .status) j))
 
-  leave-refused : (key : GroupKey) → (leaveGroup key gs (n .scenes) .result .status ≡ success → ⊥) → leaveGroup key gs (n .scenes) ≡ bothRefused gs (n .scenes) (leaveGroup key gs (n .scenes) .result .status)
+  leave-refused : (key : GroupKey) → (leaveGroup key gs (n .scenes) .result .status ≡ success → ⊥)
+      → leaveGroup key gs (n .scenes) ≡ bothRefused gs (n .scenes) (leaveGroup key gs (n .scenes) .result .status)
   unfolding leaveGroup guarded
   leave-refused key fails =
       let t = n .scenes in
@@ -333,7 +352,8 @@ unlent-refused (command f e (store g s captured)) n q fails whole = absurd (fals
 unlent-refused (command f e (recall g s o a)) n q fails whole = absurd (false≢true (sym q))
 unlent-refused (command f e (copy mode g s h r)) n q fails whole = absurd (false≢true (sym q))
 unlent-refused (command f e (membership g buffer)) n q fails whole = absurd (false≢true (sym q))
-unlent-refused (command f e (info single)) n q fails whole = ap (λ (u : Table). record { scenes = u; groups = n .groups }) (refused-run (calls.command f e (calls.info single)) (n .scenes) fails refl)
+unlent-refused (command f e (info single)) n q fails whole =
+    ap (λ (u : Table). record { scenes = u; groups = n .groups }) (refused-run (calls.command f e (calls.info single)) (n .scenes) fails refl)
 unlent-refused (command f e (join g)) n q fails whole = absurd (false≢true (sym q))
 unlent-refused (command f e (leave g)) n q fails whole = absurd (false≢true (sym q))
 unlent-refused (removal f) n q fails whole = absurd (false≢true (sym q))

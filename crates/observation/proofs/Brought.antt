@@ -110,7 +110,8 @@ module _ (q : SceneEntry → Bool) where
         (cond-elim (λ (o : Seen). None (o .1)) (eqb (roomIn f (viewOf t)) 0) (λ _. z)
         (λ _. none-copied f e mode h r (map (target f e mode h r) (sources f e mode g s (viewOf t))) (viewOf t)
         (count-map q (target f e mode h r) (sources f e mode g s (viewOf t))
-        ∙ count-none (λ x. q (target f e mode h r x)) (λ x. out (target f e mode h r x) (in-group f e h (cond (wholeGroup mode) (sceneOf (x .key)) r) (cond-elim (λ (k : ℕ). k < 2 ^ 8) (wholeGroup mode) (λ _. omega arith) (λ _. w .4))))
+        ∙ count-none (λ x. q (target f e mode h r x)) (λ x.
+        out (target f e mode h r x) (in-group f e h (cond (wholeGroup mode) (sceneOf (x .key)) r) (cond-elim (λ (k : ℕ). k < 2 ^ 8) (wholeGroup mode) (λ _. omega arith) (λ _. w .4))))
         (sources f e mode g s (viewOf t))) z))
     passed (membership g m buffer) w p out =
         subst (λ (o : Seen). None (o .1)) (sym (laws .commands f e t sd hf he .membership-acts g m buffer w p))

@@ -230,6 +230,10 @@ module _ (P : ℕ → Type 0) (done : P success) where
 
 -- ---- the calls
 
+-- 2, where the membership failed
+two : {m : Membership} (Q : Membership → ℕ → Type 0) → Q Failed membershipFailed → m ≡ Failed → Q m membershipFailed
+two Q z e = subst (λ (x : Membership). Q x membershipFailed) (sym e) z
+
 module _ (key : SceneKey) (m : Membership) (t : Table) where
   pub add-numbers : (time : ℕ) (pairs ext : List ℕ) → Among (0 ∷ 1 ∷ 6 ∷ 7 ∷ 0x85 ∷ 0x87 ∷ 0x89 ∷ failing m) (addScene key time m pairs ext t .status)
   unfolding addScene
@@ -237,7 +241,7 @@ module _ (key : SceneKey) (m : Membership) (t : Table) where
       let Q : Membership → ℕ → Type 0 = λ x. Among (0 ∷ 1 ∷ 6 ∷ 7 ∷ 0x85 ∷ 0x87 ∷ 0x89 ∷ failing x) in
       let P = Q m in
       guarded-is P refl (λ (r : Result). r .status) (refused t) (λ n. refl) t _ _ refl
-      (add-gate-is P refl refl refl refl m (λ e. subst (λ (x : Membership). Q x membershipFailed) (sym e) refl) refl key time pairs (length ext) (refuse-if P refl (ltb maxFields (length ext)) insufficientSpace refl))
+      (add-gate-is P refl refl refl refl m (two Q refl) refl key time pairs (length ext) (refuse-if P refl (ltb maxFields (length ext)) insufficientSpace refl))
       (upsert-is P refl refl key time ext t)
 
   -- an add's numbers and 11
@@ -247,7 +251,7 @@ module _ (key : SceneKey) (m : Membership) (t : Table) where
       let Q : Membership → ℕ → Type 0 = λ x. Among (0 ∷ 1 ∷ 6 ∷ 7 ∷ 11 ∷ 0x85 ∷ 0x87 ∷ 0x89 ∷ failing x) in
       let P = Q m in
       guarded-is P refl (λ (r : Result). r .status) (refused t) (λ n. refl) t _ _ refl
-      (addRead-gate-is P refl refl refl refl m (λ e. subst (λ (x : Membership). Q x membershipFailed) (sym e) refl) refl refl key time pairs ext (refuse-if P refl (ltb maxFields (length ext)) insufficientSpace refl))
+      (addRead-gate-is P refl refl refl refl m (two Q refl) refl refl key time pairs ext (refuse-if P refl (ltb maxFields (length ext)) insufficientSpace refl))
       (upsert-is P refl refl key time ext t)
 
   pub store-numbers : (captured : List ℕ) → Among (0 ∷ 1 ∷ 3 ∷ 6 ∷ 0x85 ∷ 0x87 ∷ 0x89 ∷ failing m) (storeScene key m captured t .status)
@@ -256,7 +260,7 @@ module _ (key : SceneKey) (m : Membership) (t : Table) where
       let Q : Membership → ℕ → Type 0 = λ x. Among (0 ∷ 1 ∷ 3 ∷ 6 ∷ 0x85 ∷ 0x87 ∷ 0x89 ∷ failing x) in
       let P = Q m in
       guarded-is P refl (λ (r : Result). r .status) (refused t) (λ n. refl) t _ _ refl
-      (store-gate-is P refl refl refl refl m (λ e. subst (λ (x : Membership). Q x membershipFailed) (sym e) refl) refl key (length captured))
+      (store-gate-is P refl refl refl refl m (two Q refl) refl key (length captured))
       (stored-is P refl key _ (upsert-is P refl refl key _ _ t))
 
   -- view, remove and recall have one gate
@@ -270,28 +274,28 @@ module _ (key : SceneKey) (m : Membership) (t : Table) where
   view-numbers =
       let Q : Membership → ℕ → Type 0 = λ x. Among (0 ∷ 1 ∷ 6 ∷ 0x85 ∷ 0x87 ∷ 0x8B ∷ failing x) in
       let P = Q m in
-      guarded-is P refl (λ (r : SceneRead). r .status) _ (λ n. refl) t _ _ refl (lookup-is P refl refl refl refl (λ e. subst (λ (x : Membership). Q x membershipFailed) (sym e) refl)) (read-is P refl refl (findScene key t) _ t)
+      guarded-is P refl (λ (r : SceneRead). r .status) _ (λ n. refl) t _ _ refl (lookup-is P refl refl refl refl (two Q refl)) (read-is P refl refl (findScene key t) _ t)
 
   pub lookup-numbers : (o : Transition) → Among (0 ∷ 1 ∷ 6 ∷ 0x85 ∷ 0x87 ∷ 0x8B ∷ failing m) (recallLookup key m o t .status)
   unfolding recallLookup
   lookup-numbers o =
       let Q : Membership → ℕ → Type 0 = λ x. Among (0 ∷ 1 ∷ 6 ∷ 0x85 ∷ 0x87 ∷ 0x8B ∷ failing x) in
       let P = Q m in
-      guarded-is P refl (λ (r : SceneRead). r .status) _ (λ n. refl) t _ _ refl (lookup-is P refl refl refl refl (λ e. subst (λ (x : Membership). Q x membershipFailed) (sym e) refl)) (read-is P refl refl (findScene key t) o t)
+      guarded-is P refl (λ (r : SceneRead). r .status) _ (λ n. refl) t _ _ refl (lookup-is P refl refl refl refl (two Q refl)) (read-is P refl refl (findScene key t) o t)
 
   pub remove-numbers : Among (0 ∷ 1 ∷ 6 ∷ 0x85 ∷ 0x87 ∷ 0x8B ∷ failing m) (removeScene key m t .status)
   unfolding removeScene
   remove-numbers =
       let Q : Membership → ℕ → Type 0 = λ x. Among (0 ∷ 1 ∷ 6 ∷ 0x85 ∷ 0x87 ∷ 0x8B ∷ failing x) in
       let P = Q m in
-      guarded-is P refl (λ (r : Result). r .status) (refused t) (λ n. refl) t _ _ refl (lookup-is P refl refl refl refl (λ e. subst (λ (x : Membership). Q x membershipFailed) (sym e) refl)) (removed-is P refl refl (findScene key t) key t)
+      guarded-is P refl (λ (r : Result). r .status) (refused t) (λ n. refl) t _ _ refl (lookup-is P refl refl refl refl (two Q refl)) (removed-is P refl refl (findScene key t) key t)
 
   pub recall-numbers : (a : Applied) → Among (0 ∷ 1 ∷ 4 ∷ 6 ∷ 0x85 ∷ 0x87 ∷ 0x8B ∷ failing m) (recallScene key m a t .status)
   unfolding recallScene
   recall-numbers a =
       let Q : Membership → ℕ → Type 0 = λ x. Among (0 ∷ 1 ∷ 4 ∷ 6 ∷ 0x85 ∷ 0x87 ∷ 0x8B ∷ failing x) in
       let P = Q m in
-      guarded-is P refl (λ (r : Result). r .status) (refused t) (λ n. refl) t _ _ refl (lookup-is P refl refl refl refl (λ e. subst (λ (x : Membership). Q x membershipFailed) (sym e) refl)) (recalled-is P refl refl refl (findScene key t) key a t)
+      guarded-is P refl (λ (r : Result). r .status) (refused t) (λ n. refl) t _ _ refl (lookup-is P refl refl refl refl (two Q refl)) (recalled-is P refl refl refl (findScene key t) key a t)
 
 module _ (key : GroupKey) (m : Membership) (t : Table) where
   group-is : (P : ℕ → Type 0) → P success → P noFabric → P invalidCommand → (m ≡ Failed → P membershipFailed) → P (groupGate key m)
@@ -303,7 +307,7 @@ module _ (key : GroupKey) (m : Membership) (t : Table) where
   removeAll-numbers =
       let Q : Membership → ℕ → Type 0 = λ x. Among (0 ∷ 1 ∷ 6 ∷ 0x85 ∷ failing x) in
       let P = Q m in
-      guarded-is P refl (λ (r : Result). r .status) (refused t) (λ n. refl) t _ _ refl (group-is P refl refl refl (λ e. subst (λ (x : Membership). Q x membershipFailed) (sym e) refl))
+      guarded-is P refl (λ (r : Result). r .status) (refused t) (λ n. refl) t _ _ refl (group-is P refl refl refl (two Q refl))
       (either (λ (r : Result). P (r .status)) (eqb (withEntries (retainOutside (groupKeys (key .fabric) (key .endpoint) (key .group))) t .state .entries) (t .state .entries)) refl refl)
 
   pub membership-numbers : (buffer : List ℕ) → Among (0 ∷ 1 ∷ 6 ∷ 8 ∷ 0x85 ∷ failing m) (getSceneMembership key m buffer t .read .status)
@@ -311,7 +315,7 @@ module _ (key : GroupKey) (m : Membership) (t : Table) where
   membership-numbers buffer =
       let Q : Membership → ℕ → Type 0 = λ x. Among (0 ∷ 1 ∷ 6 ∷ 8 ∷ 0x85 ∷ failing x) in
       let P = Q m in
-      guarded-is P refl (λ (l : Listed). l .read .status) _ (λ n. refl) t _ _ refl (group-is P refl refl refl (λ e. subst (λ (x : Membership). Q x membershipFailed) (sym e) refl))
+      guarded-is P refl (λ (l : Listed). l .read .status) _ (λ n. refl) t _ _ refl (group-is P refl refl refl (two Q refl))
       (list-is P refl refl (sceneIds key t) _ buffer t)
 
 pub copy-numbers : (c : CopyRequest) (m n : Membership) (t : Table) → Among (0 ∷ 1 ∷ 6 ∷ 0x85 ∷ 0x87 ∷ 0x89 ∷ 0x8B ∷ failing m ++ failing n) (copyScene c m n t .status)
@@ -321,7 +325,7 @@ copy-numbers c m n t =
     let P = Q m n in
     let target : (x : Membership) → Q x Failed membershipFailed = λ x. elim x [ Yes ↦ refl | No ↦ refl | Failed ↦ refl ] in
     guarded-is P refl (λ (r : Result). r .status) (refused t) (λ k. refl) t _ _ refl
-    (copy-gate-is P refl refl refl refl m (λ e. subst (λ (x : Membership). Q x n membershipFailed) (sym e) refl) c n (λ e. subst (λ (x : Membership). Q m x membershipFailed) (sym e) (target m)))
+    (copy-gate-is P refl refl refl refl m (two (λ x. Q x n) refl) c n (two (Q m) (target m)))
     (inner-is P refl refl refl c t)
 
 pub info-numbers : (fabric endpoint : ℕ) (single : Bool) (t : Table) → Among (0 ∷ 1 ∷ 5 ∷ 6 ∷ []) (readFabricSceneInfo fabric endpoint single t .status)
