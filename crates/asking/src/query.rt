@@ -78,8 +78,8 @@ impl AskingHandler {
         fields: &[u8],
         records: &[u64],
         words: &[u64],
-        key: GroupKey,
         ids: &mut [u8],
+        key: GroupKey,
     ) -> ListRead
         ensures { λ r.
             let table = tableOf (self .state) (now (keys .entry)) (now (times .entry)) (now (fields .entry)) (now (records .entry)) in

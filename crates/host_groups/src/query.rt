@@ -88,7 +88,7 @@ pub extern "C" fn scenes_get_membership_asking(
         fields,
         records,
         words,
-        key,
         ids,
+        key,
     )
 }

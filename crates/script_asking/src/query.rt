@@ -90,7 +90,7 @@ fn list(
         ⌜ calledOf (doneOf r after) (now (buffer .exit)) ≡ listAsked (read .values) (now (buffer .entry)) groups before ⌝ }
 {
     let key = group_key(read);
-    let listed = asking.get_scene_membership(keys, times, fields, records, words, key, buffer);
+    let listed = asking.get_scene_membership(keys, times, fields, records, words, buffer, key);
     let state = listed.state;
     Answer {
         status: listed.status,
