@@ -217,7 +217,8 @@ fn compare(script: &[String], oracle: &mut Lines<'_>, ours: &mut Lines<'_>, tall
             *met.entry(cause(line, kind, answer, table)).or_default() += 1;
         }
         if step.said.is_some() {
-            tally.calls += 1;
+            // A membership as it stands is no call.
+            tally.calls += u64::from(!line.starts_with('m'));
         } else if !is_raw(&step.rust) {
             tally.count(&Call { line: &step.rust, answer, before, after, dump }, table)?;
         }
