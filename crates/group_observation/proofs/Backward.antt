@@ -18,7 +18,7 @@ use Rattle.requests.specs.declared.Membership.{Membership}
 use Rattle.requests.specs.declared.Membership.the-variants.{Yes, No}
 use Rattle.requests.specs.Requests.{orNext, firstRefusal, reserved, memberGate, lookupGate}
 use Rattle.state.specs.Table.{Table}
-use Rattle.groups.specs.Groups.{Groups, groupWord, groupSound, wordsIn, isMember, memberOf, Joined, joinGate, withMember}
+use Rattle.groups.specs.Groups.{Groups, groupWord, groupSound, wordsIn, isMember, memberOf, Joined, withMember}
 use Rattle.groups.proofs.Laws.{groups-few}
 use Rattle.observation.specs.Lists.{count, find}
 use Rattle.observation.specs.Calls as calls
@@ -40,9 +40,9 @@ use Rattle.observation.proofs.Asked.{viewed-alike, view-answer}
 use Rattle.observation.proofs.Backward as backward
 use Rattle.group_observation.specs.Nodes.{Node, Command, add, view, store, info, join, command, onScenes, Out, does, step, answer, next, InRange}
 use Rattle.group_observation.specs.Equivalence.{own, noticed, wholeCopy, Equivalent, membershipsOf, freeMemberships, Agree}
-use Rattle.group_observation.proofs.Words.{isWord, badWord, words-length, member-has, words-sound}
+use Rattle.group_observation.proofs.Words.{isWord, badWord, words-length, member-has, no-member, words-sound}
 use Rattle.group_observation.proofs.Asks.{asks, tells, told}
-use Rattle.group_observation.proofs.Reach.{Joining, turned, again, full, new, joining, Standing, step-standing}
+use Rattle.group_observation.proofs.Reach.{Joining, turned, again, full, new, joining, gate-open, Standing, step-standing}
 use Rattle.group_observation.proofs.Enrolled.{groupIn, orphan, Cared, step-cared}
 
 -- lists that have an element once at most, and both or neither
@@ -235,12 +235,8 @@ module _ (f : ℕ) (f1 : 1 ≤ f) (f255 : f ≤ 255) where
       let r = fresh (λ e. isWord (probe e)) (λ i e l x h. let q = eqb-true x (probe e) h in ne-eqb x (probe i) (λ y. omega arith)) 257 (wordsIn g)
       (omega (arith, words-length g sd, groups-few g sd)) in
       let he : r .0 < 2 ^ 16 = omega (arith, r .1) in
-      let none-here : isMember (groupKey f (r .0) 1) g ≡ false = member-has g sd (groupKey f (r .0) 1) ∙ ap found (none-find (isWord (probe (r .0))) (wordsIn g) (r .2)) in
+      let none-here : isMember (groupKey f (r .0) 1) g ≡ false = no-member g sd (groupKey f (r .0) 1) (r .2) in
       record { e = r .0; fits = he; here = none-here; there = sym (members p (r .0) 1 he (omega arith)) ∙ none-here }
-
-  gate-open : (n : Node) → Standing n → (e : ℕ) → joinGate (groupKey f e 1) (n .groups) ≡ success
-  unfolding joinGate firstRefusal orNext
-  gate-open n s e = rw (s .fair .intact, ne-eqb f 0 (λ z. omega arith)) refl
 
   -- 12 where all are taken; else one more is held, and the scenes stay
   pub record Takes (n : Node) (e : ℕ) : Type 0 where
@@ -255,7 +251,7 @@ module _ (f : ℕ) (f1 : 1 ≤ f) (f255 : f ≤ 255) where
       count-held = n .groups .state .held
 
       go : Joining (groupKey f e 1) (n .groups) → Takes n e
-      go (turned z j) = absurd (z (gate-open n s e))
+      go (turned z j) = absurd (z (gate-open f e 1 (n .groups) (s .fair .intact) f1 (omega arith)))
       go (again p h j) = absurd (false≢true (sym m ∙ h))
       go (full p h l j) =
           let no : ltb count-held maxMemberships ≡ false = le-ltb count-held maxMemberships (omega arith) in

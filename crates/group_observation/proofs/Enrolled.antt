@@ -31,7 +31,7 @@ use Rattle.observation.proofs.Lookups.{holds}
 use Rattle.observation.proofs.Changes.{View, viewOf, invalidated}
 use Rattle.observation.proofs.Effects.{Seen, gateOf}
 use Rattle.observation.proofs.Counts.{both, count-append, count-ext, count-keep, find-none}
-use Rattle.observation.proofs.Choices.{cond-elim, bit-zero, lost, count-none, count-less, count-keep-le, has-same, has-count, count-has}
+use Rattle.observation.proofs.Choices.{cond-elim, bit-zero, lost, count-less, count-keep-le, has-same, has-count, count-has}
 use Rattle.observation.proofs.Calls.{laws}
 use Rattle.observation.proofs.Brought.{groupNamed, None, none-brought}
 use Rattle.observation.proofs.Bits.{rebuilt}
@@ -41,7 +41,7 @@ use Rattle.observation.proofs.Theorem.{none-passes}
 use Rattle.group_observation.specs.Nodes.{Node, Command, add, addRead, view, remove, removeAll, store, recall, copy, membership, info, join, leave, Call, command, removal, reset, onScenes, Out, does, step, next, CommandInRange, InRange}
 use Rattle.group_observation.specs.Equivalence.{Reached, begun, after, NoneSince, fills, ReachedEnrolled}
 use Rattle.requests.proofs.Passed.{first-pass, if-pass, fabric-pass}
-use Rattle.group_observation.proofs.Words.{isWord, member-has, word-in-range, joined-words, joined-sound, kept-words, kept-sound}
+use Rattle.group_observation.proofs.Words.{isWord, none-kept, member-has, word-in-range, joined-words, joined-sound, kept-words, kept-sound}
 use Rattle.group_observation.proofs.Asks.{asking-sound, asks, tells, tells-range, told, left, stays}
 use Rattle.group_observation.proofs.Reach.{Joining, turned, again, full, new, joining, joins, Standing, reached-standing}
 
@@ -258,7 +258,7 @@ module _ (n : Node) (st : Standing n) (z : Cared (n .groups) (n .scenes)) where
       subst (λ (o : Seen). count p (o .1 .entries) ≡ 0)
       (sym (laws .commands f e (n .scenes) (st .scenes .intact) hf he .removeAll-acts g Yes hg (group-let f e g f1)))
       (cond-elim (λ (o : Seen). count p (o .1 .entries) ≡ 0) (has p es)
-      (λ _. count-keep p (λ x. not (p x)) es ∙ count-none (λ x. not (p x) && p x) (λ x. elim (p x) as (λ b. (not b && b) ≡ false) [ true ↦ refl | false ↦ refl ]) es)
+      (λ _. none-kept p es)
       (λ h. find-none p es (lost (find p es) h)))
 
   leave-cared : (f e g : ℕ) → InRange (command f e (leave g)) → Cared (next (command f e (leave g)) n .groups) (next (command f e (leave g)) n .scenes)
@@ -288,8 +288,7 @@ module _ (n : Node) (st : Standing n) (z : Cared (n .groups) (n .scenes)) where
   none-mine f hf h =
       let es = viewOf (n .scenes) .entries in
       ap (λ (o : Seen). count (mine f) (o .1 .entries)) (laws .events (n .scenes) (st .scenes .intact) .removal-acts f hf h)
-      ∙ count-keep (mine f) (λ x. not (mine f x)) es
-      ∙ count-none (λ x. not (mine f x) && mine f x) (λ x. elim (mine f x) as (λ b. (not b && b) ≡ false) [ true ↦ refl | false ↦ refl ]) es
+      ∙ none-kept (mine f) es
 
   removal-cared : (f : ℕ) → f < 2 ^ 8 → Cared (next (removal f) n .groups) (next (removal f) n .scenes)
   unfolding step calls.step removeForFabricBoth

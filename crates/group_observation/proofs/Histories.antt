@@ -5,14 +5,12 @@ use native.Mathlib.Omega.{arith}
 use mathlib.Core.Path.{_≡_, refl, sym, ap, _∙_, subst}
 use mathlib.Core.Bool.{Bool, true, false, cond, not, _&&_, _||_, false≢true}
 use mathlib.Core.List.{List, [], _∷_, _++_, map}
-use mathlib.Core.Option.{Option}
 use lib.Dec.{eqb, ltb}
 use lib.ListN.{length}
-use borrow.Author.Tests.{eqb-true, eqb-false, eq-eqb, ne-eqb, le-ltb}
+use borrow.Author.Tests.{eqb-true, eqb-false, ne-eqb, le-ltb}
 use Rattle.words.specs.Constants.{success, insufficientSpace, notFound, bufferTooShort, endOfContainer, maxMemberships}
 use Rattle.words.specs.Words.{wordOf, fabricOf, groupKeys, within}
 use Rattle.words.specs.declared.SceneKey.{SceneKey}
-use Rattle.words.proofs.Tests.{and-false}
 use Rattle.slots.specs.Slots.{SceneEntry}
 use Rattle.records.specs.declared.Scope.the-variants.{Scene, Group, Endpoint}
 use Rattle.commands.specs.declared.Applied.{Applied}
@@ -22,18 +20,17 @@ use Rattle.state.specs.Table.{Table, emptyTable}
 use Rattle.state.specs.Sound.{sound}
 use Rattle.state.specs.Capacity.{shareMode}
 use Rattle.image_load.proofs.Computing.{loading}
-use Rattle.groups.specs.Groups.{Groups, groupWord, groupsSound, wordsIn, isMember, Joined, joinedOf, joinGroup}
+use Rattle.groups.specs.Groups.{Groups, groupsSound, wordsIn, isMember, Joined, joinedOf, joinGroup}
 use Rattle.asking.specs.Asking.{Both, leaveGate, leaveGroup}
 use Rattle.observation.specs.Lists.{count, find, keep}
 use Rattle.observation.specs.Calls as calls
 use Rattle.observation.specs.Calls.{Answer, sceneKey, groupKey}
 use Rattle.observation.specs.Equivalence as scenes
 use Rattle.observation.specs.Equivalence.{Same, keyIs, unless}
-use Rattle.observation.proofs.Lists.{found, has, takeOut}
+use Rattle.observation.proofs.Lists.{has, takeOut}
 use Rattle.observation.proofs.Lookups.{holds, entryOf}
 use Rattle.observation.proofs.Changes.{View, viewOf, roomIn, placesIn, placeFor, entriesSet, written, invalidated, remembered}
 use Rattle.observation.proofs.Effects.{Seen, sees, gateOf, refuse, done, timeOf, viewed, applied, recalled, addOut, sources, target, scopeOf, copyOut, idsIn, infoOut, remainingIn}
-use Rattle.observation.proofs.Counts.{count-le, none-find}
 use Rattle.observation.proofs.Choices.{or-none}
 use Rattle.observation.proofs.Calls.{laws}
 use Rattle.observation.proofs.Order.{perm-often}
@@ -41,7 +38,7 @@ use Rattle.observation.proofs.Readings.{running}
 use Rattle.observation.proofs.Respond.{same-of}
 use Rattle.group_observation.specs.Nodes.{Node, Command, add, addRead, view, remove, removeAll, store, recall, copy, membership, info, join, leave, Call, command, onScenes, Out, ofJoined, ofBoth, does, step, answer, next, CommandInRange, InRange, loads, isTold}
 use Rattle.group_observation.specs.Equivalence.{Reached, begun, after, NoneSince, fills, Event, own, noticed, ends, Alike, AllInRange, Equivalent, Agree, Exactly}
-use Rattle.group_observation.proofs.Words.{isWord, member-has}
+use Rattle.group_observation.proofs.Words.{no-members}
 use Rattle.group_observation.proofs.Asks.{asks, tells, tells-range, told, stays}
 use Rattle.group_observation.proofs.Reach.{Joining, turned, again, full, new, joining, reached-standing}
 use Rattle.group_observation.proofs.Enrolled.{group-passed, passed-member, leaves}
@@ -149,12 +146,7 @@ module _ (gs : Groups) (sd : groupsSound gs ≡ true) (all : gs .state .held ≡
     pub view : viewOf (n .scenes) ≡ stuckView version time
 
   not-held : (e g : ℕ) → e < 2 ^ 16 → g < 2 ^ 16 → isMember (groupKey 1 e g) gs ≡ false
-  not-held e g he hg =
-      let w = groupWord (groupKey 1 e g) in
-      let own-word : eqb (fabricOf w) 1 ≡ true = eq-eqb (fabricOf w) 1 (omega arith) in
-      let z : count (isWord w) (wordsIn gs) ≡ 0 =
-      omega (arith, others, count-le (isWord w) (λ x. eqb (fabricOf x) 1) (λ x q. ap (λ (y : ℕ). eqb (fabricOf y) 1) (eqb-true x w q) ∙ own-word) (wordsIn gs)) in
-      member-has gs sd (groupKey 1 e g) ∙ ap (λ (o : Option ℕ). not (eqb g 0) && found o) (none-find (isWord w) (wordsIn gs) z) ∙ and-false (not (eqb g 0))
+  not-held e g he hg = no-members gs sd 1 e g he hg others
 
   -- past the gate the group is 0
   ungrouped : (e : ℕ) (c : Command) → e < 2 ^ 16 → groupNamed (tells gs 1 e c) < 2 ^ 16 → asks c ≡ true → gateOf 1 e (tells gs 1 e c) ≡ 0 → groupNamed (tells gs 1 e c) ≡ 0

@@ -2,7 +2,7 @@
 use Prim.Native.Nat.{ℕ, _≤_}
 use native.Mathlib.Omega.{arith}
 use mathlib.Core.Path.{_≡_, refl, sym, ap, _∙_, subst}
-use mathlib.Core.Bool.{Bool, true, false, cond, not, _&&_, _||_, false≢true}
+use mathlib.Core.Bool.{Bool, true, false, cond, not, _||_, false≢true}
 use mathlib.Core.List.{List, [], _∷_, _++_}
 use lib.Dec.{eqb, ltb}
 use borrow.Author.Tests.{eqb-true, eq-eqb, ne-eqb}
@@ -36,8 +36,8 @@ use Rattle.observation.specs.Refusals as refusals
 use Rattle.observation.proofs.Lists.{found, has}
 use Rattle.observation.proofs.Changes.{viewOf, stepped}
 use Rattle.observation.proofs.Effects.{Seen}
-use Rattle.observation.proofs.Counts.{count-keep, none-find}
-use Rattle.observation.proofs.Choices.{cond-elim, count-none}
+use Rattle.observation.proofs.Counts.{none-find}
+use Rattle.observation.proofs.Choices.{cond-elim}
 use Rattle.observation.proofs.Losses.{keep-ext}
 use Rattle.observation.proofs.Calls.{laws}
 use Rattle.observation.proofs.Numbers as numbers
@@ -49,14 +49,11 @@ use Rattle.group_observation.specs.Nodes.{Node, Command, add, addRead, v
 use Rattle.group_observation.specs.Promises as promises
 use Rattle.group_observation.specs.Promises.{ofFabricWord, Removed, RemovalLeavesNothing, Quiet, MembershipsAlone, JoinIsQuiet, Numbers, midway, RefusedRun, lent, UnsoundRun}
 use Rattle.requests.proofs.Passed.{first-pass, fabric-pass}
-use Rattle.group_observation.proofs.Words.{kept-words}
+use Rattle.group_observation.proofs.Words.{none-kept, kept-words}
 use Rattle.group_observation.proofs.Asks.{asking-sound, asks, tells, told}
 use Rattle.group_observation.proofs.Reach.{Joining, turned, again, full, new, joining}
 
 -- ---- a fabric's removal
-
-none-of : {A : Type 0} (p : A → Bool) (xs : List A) → count p (keep (λ x. not (p x)) xs) ≡ 0
-none-of p xs = count-keep p (λ x. not (p x)) xs ∙ count-none (λ x. not (p x) && p x) (λ x. elim (p x) as (λ b. (not b && b) ≡ false) [ true ↦ refl | false ↦ refl ]) xs
 
 module _ (f : ℕ) (n : Node) (f1 : 1 ≤ f) (f255 : f ≤ 255) (s : sound (n .scenes) ≡ true) (g : groupsSound (n .groups) ≡ true) where
   some-fabric : f ≡ 0 → ⊥
@@ -85,9 +82,9 @@ module _ (f : ℕ) (n : Node) (f1 : 1 ≤ f) (f255 : f ≤ 255) (s : sound (n .s
         entries = e;
         records = r;
         memberships = m;
-        noEntry = ap (count (mine f)) e ∙ none-of (mine f) (entriesIn (n .scenes));
-        noRecord = ap (count (ofFabric f)) r ∙ none-of (ofFabric f) (recordsIn (n .scenes));
-        noMembership = ap (count (ofFabricWord f)) m ∙ none-of (ofFabricWord f) (wordsIn (n .groups));
+        noEntry = ap (count (mine f)) e ∙ none-kept (mine f) (entriesIn (n .scenes));
+        noRecord = ap (count (ofFabric f)) r ∙ none-kept (ofFabric f) (recordsIn (n .scenes));
+        noMembership = ap (count (ofFabricWord f)) m ∙ none-kept (ofFabricWord f) (wordsIn (n .groups));
       })
 
   quiet : count (mine f) (entriesIn (n .scenes)) ≡ 0 → count (ofFabric f) (recordsIn (n .scenes)) ≡ 0 → Quiet (removal f) n

@@ -12,7 +12,7 @@ use Rattle.words.specs.Constants.{success, membershipsFull, maxMemberships}
 use Rattle.words.specs.Words.{groupOf, within, fabricKeys}
 use Rattle.words.specs.declared.GroupKey.{GroupKey}
 use Rattle.words.specs.declared.KeyRange.{KeyRange}
-use Rattle.requests.specs.Requests.{fabricGate}
+use Rattle.requests.specs.Requests.{orNext, firstRefusal, fabricGate}
 use Rattle.state.specs.Table.{Table}
 use Rattle.state.specs.Sound.{sound}
 use Rattle.lifecycle.specs.Lifecycle.{removeForFabric, factoryReset}
@@ -73,6 +73,11 @@ joins k g z =
     let b = first-pass (fabricGate (k .fabric)) _ a in
     let c = first-pass (ungroupedGate (k .group)) [] (b .1) .0 in
     record { fabric = fabric-pass (k .fabric) (b .0); group = eqb-false (k .group) 0 (if-pass (eqb (k .group) 0) 0x87 (omega arith) c) }
+
+-- and sound memberships let a fabric and a group through
+pub gate-open : (f e g : ℕ) (gs : Groups) → groupsSound gs ≡ true → 1 ≤ f → 1 ≤ g → joinGate (groupKey f e g) gs ≡ success
+unfolding joinGate firstRefusal orNext
+gate-open f e g gs sd f1 g1 = rw (sd, ne-eqb f 0 (λ z. omega arith), ne-eqb g 0 (λ z. omega arith)) refl
 
 -- ---- memberships
 

@@ -3,31 +3,29 @@
 use Prim.Native.Nat.{ℕ, zero, suc, _+_, _^_, _≤_, _<_}
 use native.Mathlib.Omega.{arith}
 use mathlib.Core.Path.{_≡_, refl, sym, ap, _∙_, subst, subst₂}
-use mathlib.Core.Bool.{Bool, true, false, cond, not, _&&_, false≢true}
+use mathlib.Core.Bool.{Bool, true, false, cond, false≢true}
 use mathlib.Core.List.{List, [], _∷_, _++_, List·Permᴰ, List·Permᴰ·swap, List·Permᴰ·nil, Permᴰ·refl}
 use lib.Dec.{eqb, ltb}
 use lib.ListN.{length, getD, replicate, length-replicate}
-use borrow.Author.Tests.{eqb-true, eq-eqb, ne-eqb}
+use borrow.Author.Tests.{eq-eqb, ne-eqb}
 use Rattle.words.specs.Constants.{success, membershipsFull, maxMemberships}
 use Rattle.words.specs.Words.{fabricOf}
 use Rattle.words.specs.declared.GroupKey.{GroupKey}
-use Rattle.requests.specs.Requests.{orNext, firstRefusal}
 use Rattle.state.specs.Table.{Table, emptyTable}
 use Rattle.state.specs.Sound.{sound}
 use Rattle.state.specs.Capacity.{shareMode}
 use Rattle.scenes.proofs.Computing.{soundness}
-use Rattle.groups.specs.Groups.{Groups, groupsOf, withHeld, groupWord, groupsSound, wordsIn, isMember, Joined, joinGate, withMember}
+use Rattle.groups.specs.Groups.{Groups, groupsOf, withHeld, groupWord, groupsSound, wordsIn, isMember, Joined, withMember}
 use Rattle.observation.specs.Lists.{bit, count, keep}
 use Rattle.observation.specs.Calls.{groupKey}
 use Rattle.observation.specs.Equivalence as scenes
-use Rattle.observation.proofs.Lists.{found}
-use Rattle.observation.proofs.Counts.{count-append, count-le, none-find}
+use Rattle.observation.proofs.Counts.{count-append}
 use Rattle.observation.proofs.Choices.{bit-zero}
 use Rattle.observation.proofs.Order.{perm-often}
 use Rattle.group_observation.specs.Nodes.{Node, join, command, does, step, answer, next}
 use Rattle.group_observation.specs.Equivalence.{Reached, begun, after, NoneSince, fills, own, membershipsOf, freeMemberships, Agree, Exactly}
-use Rattle.group_observation.proofs.Words.{isWord, of-words, member-has, joined-words}
-use Rattle.group_observation.proofs.Reach.{Joining, turned, again, full, new, joining, reached-standing}
+use Rattle.group_observation.proofs.Words.{isWord, of-words, no-member, no-members, joined-words}
+use Rattle.group_observation.proofs.Reach.{Joining, turned, again, full, new, joining, gate-open, reached-standing}
 use Rattle.group_observation.proofs.Enrolled.{reached-cared}
 use Rattle.group_observation.proofs.Backward.{takes, agree}
 use Rattle.group_observation.proofs.Theorem.{alike-exactly}
@@ -67,26 +65,16 @@ record Took (n : Node) (k : GroupKey) (x : Node) : Type 0 where
   scenes : x .scenes ≡ n .scenes
   groups : x .groups ≡ withMember k (n .groups)
 
-gate-open : (f e g : ℕ) (n : Node) → groupsSound (n .groups) ≡ true → 1 ≤ f → 1 ≤ g → joinGate (groupKey f e g) (n .groups) ≡ success
-unfolding joinGate firstRefusal orNext
-gate-open f e g n sd f1 g1 = rw (sd, ne-eqb f 0 (λ z. omega arith), ne-eqb g 0 (λ z. omega arith)) refl
-
 took : (n : Node) → groupsSound (n .groups) ≡ true → (f e g : ℕ) → 1 ≤ f → 1 ≤ g → isMember (groupKey f e g) (n .groups) ≡ false
     → n .groups .state .held < maxMemberships → Took n (groupKey f e g) (next (command f e (join g)) n)
 unfolding step does
 took n sd f e g f1 g1 m h = go (joining (groupKey f e g) (n .groups) sd)
   where
     go : Joining (groupKey f e g) (n .groups) → Took n (groupKey f e g) (next (command f e (join g)) n)
-    go (turned z j) = absurd (z (gate-open f e g n sd f1 g1))
+    go (turned z j) = absurd (z (gate-open f e g (n .groups) sd f1 g1))
     go (again p y j) = absurd (false≢true (sym m ∙ y))
     go (full p y l j) = absurd (omega arith)
     go (new p y l j) = record { scenes = refl; groups = ap (λ (x : Joined). x .groups) j }
-
--- a word that is not there is no membership
-unheld : (n : Node) → groupsSound (n .groups) ≡ true → (k : GroupKey) → 1 ≤ k .group → count (isWord (groupWord k)) (wordsIn (n .groups)) ≡ 0 → isMember k (n .groups) ≡ false
-unheld n sd k g1 z =
-    member-has (n .groups) sd k
-    ∙ (λ i. not (ne-eqb (k .group) 0 (λ e. omega arith) i) && found (none-find (isWord (groupWord k)) (wordsIn (n .groups)) z i))
 
 -- ---- fabric 2 holds k memberships
 
@@ -105,7 +93,7 @@ fill (suc k) h =
     let n = p .by .node in
     let sd = reached-standing (p .by .reached) .fair .intact in
     let few : n .groups .state .held < maxMemberships = omega (arith, p .held) in
-    let m = unheld n sd (groupKey 2 k 1) (omega arith) (p .ahead k (omega arith) (omega arith)) in
+    let m = no-member (n .groups) sd (groupKey 2 k 1) (p .ahead k (omega arith) (omega arith)) in
     let t = took n sd 2 k 1 (omega arith) (omega arith) m few in
     let ws = ap wordsIn (t .groups) ∙ joined-words (groupKey 2 k 1) (n .groups) sd few in
     let counted : (q : ℕ → Bool) → count q (wordsIn (next (command 2 k (join 1)) n .groups)) ≡ count q (wordsIn (n .groups)) + (bit (q (groupWord (groupKey 2 k 1))) + 0) =
@@ -153,11 +141,7 @@ free-counts claim =
     (record { scenes = same-scenes 1 (m .scenes) (n .scenes) size; memberships = subst₂ List·Permᴰ (sym (none-own 256 a)) (sym (none-own 255 b)) List·Permᴰ·nil }) in
     let s = see (own 1 (join 1) ∷ []) ((omega arith, omega arith, omega arith), tt) .0 .status in
     let un : (k : ℕ) (x : Filled k) → groupsSound (x .by .node .groups) ≡ true → isMember (groupKey 1 1 1) (x .by .node .groups) ≡ false =
-    λ k x sd. unheld (x .by .node) sd (groupKey 1 1 1) (omega arith) (omega (
-      arith,
-      x .others,
-      count-le (isWord (groupWord (groupKey 1 1 1))) (λ w. eqb (fabricOf w) 1) (λ w e. ap (λ (y : ℕ). eqb (fabricOf y) 1) (eqb-true w (groupWord (groupKey 1 1 1)) e)) (wordsIn (x .by .node .groups)),
-    )) in
+    λ k x sd. no-members (x .by .node .groups) sd 1 1 1 (omega arith) (omega arith) (x .others) in
     let ma = takes 1 (omega arith) (omega arith) m sm 1 (un 256 a (sm .fair .intact)) .status in
     let mb = takes 1 (omega arith) (omega arith) n sn 1 (un 255 b (sn .fair .intact)) .status in
     let twelve : answer (command 1 1 (join 1)) m .status ≡ membershipsFull = ma ∙ ap (λ (k : ℕ). cond (ltb k maxMemberships) success membershipsFull) (a .held) in
@@ -179,7 +163,7 @@ record Joiner (g : ℕ) : Type 0 where
 joiner : (g : ℕ) → 1 ≤ g → g < 2 ^ 16 → Joiner g
 unfolding wordsIn withMember
 joiner g g1 hg =
-    let t = took start start-groups 1 1 g (omega arith) g1 (unheld start start-groups (key g) g1 refl) (omega arith) in
+    let t = took start start-groups 1 1 g (omega arith) g1 (no-member (start .groups) start-groups (key g) refl) (omega arith) in
     record {
       by = joins fresh-start 1 1 g (omega arith) (omega arith) hg;
       scenes = t .scenes;
@@ -201,7 +185,7 @@ joiner2 g h g1 hg h1 hh d =
     let sd = reached-standing (p .by .reached) .fair .intact in
     let apart : eqb (groupWord (key g)) (groupWord (key h)) ≡ false = ne-eqb (groupWord (key g)) (groupWord (key h)) (λ e. d (omega arith)) in
     let few : n .groups .state .held < maxMemberships = omega (arith, p .held) in
-    let t = took n sd 1 1 h (omega arith) h1 (unheld n sd (key h) h1 (ap (count (isWord (groupWord (key h)))) (p .words) ∙ omega (arith, ap bit apart))) few in
+    let t = took n sd 1 1 h (omega arith) h1 (no-member (n .groups) sd (key h) (ap (count (isWord (groupWord (key h)))) (p .words) ∙ omega (arith, ap bit apart))) few in
     record {
       by = joins (p .by) 1 1 h (omega arith) (omega arith) hh;
       scenes = t .scenes ∙ p .scenes;

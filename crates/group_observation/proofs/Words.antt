@@ -3,27 +3,30 @@ use Prim.Native.Nat.{ℕ, _+_, _^_, _≤_, _<_}
 use native.Mathlib.Omega.{arith}
 use native.Mathlib.Numerals.{add-one}
 use mathlib.Core.Path.{_≡_, refl, sym, ap, _∙_}
-use mathlib.Core.Bool.{Bool, true, not, _&&_}
-use mathlib.Core.List.{[], _∷_, _++_, map}
+use mathlib.Core.Bool.{Bool, true, false, not, _&&_}
+use mathlib.Core.List.{List, [], _∷_, _++_, map}
+use mathlib.Core.Option.{Option}
 use lib.Dec.{eqb, leb}
 use lib.ListN.{length, take, getD, set, length-set}
 use lib.Seq.{length-take-le, getD-take, take-suc-set}
-use borrow.Author.Tests.{le-leb, eq-eqb}
+use borrow.Author.Tests.{le-leb, eq-eqb, eqb-true}
 use Rattle.words.specs.Constants.{maxMemberships}
-use Rattle.words.specs.Words.{sceneOf, within}
+use Rattle.words.specs.Words.{fabricOf, sceneOf, within}
 use Rattle.words.specs.Below.{positions, everyBelow}
 use Rattle.words.specs.declared.GroupKey.{GroupKey}
 use Rattle.words.specs.declared.KeyRange.{KeyRange}
 use Rattle.words.proofs.Below.{every-at, every-intro}
-use Rattle.words.proofs.Tests.{and-right, and-intro, all-head, all-tail, all-none, all-more, not-false}
+use Rattle.words.proofs.Tests.{and-right, and-intro, all-head, all-tail, all-none, all-more, not-false, and-false}
 use Rattle.slots.specs.Slots.{keySound, outside}
 use Rattle.slots.proofs.Laws.{outside-le}
 use Rattle.records.proofs.View.{length-moved, take-moved}
 use Rattle.groups.specs.Groups.{Groups, groupWord, groupSound, groupsSound, wordsIn, isMember, withMember, retainGroups, noGroups}
 use Rattle.groups.proofs.Laws.{groups-few, groups-room, groups-fit}
 use Rattle.observation.specs.Lists.{bit, count, keep}
-use Rattle.observation.proofs.Lists.{has}
-use Rattle.observation.proofs.Counts.{count-append, count-keep, count-le, has-map, keep-map}
+use Rattle.observation.specs.Calls.{groupKey}
+use Rattle.observation.proofs.Lists.{found, has}
+use Rattle.observation.proofs.Counts.{count-append, count-keep, count-le, has-map, keep-map, none-find}
+use Rattle.observation.proofs.Choices.{count-none}
 use Rattle.observation.proofs.Firsts.{count-nowhere, nowhere-count}
 use Rattle.observation.proofs.Positions.{has-positions, keep-positions, view-list}
 use Rattle.observation.proofs.Sound.{word-sound}
@@ -35,6 +38,12 @@ isWord w x = eqb x w
 -- a word out of range
 abbrev pub badWord : ℕ → Bool
 badWord w = not (groupSound w)
+
+-- what passes a test is not among those that fail it
+pub none-kept : {A : Type 0} (p : A → Bool) (xs : List A) → count p (keep (λ x. not (p x)) xs) ≡ 0
+none-kept p xs =
+    count-keep p (λ x. not (p x)) xs
+    ∙ count-none (λ x. not (p x) && p x) (λ x. elim (p x) as (λ b. (not b && b) ≡ false) [ true ↦ refl | false ↦ refl ]) xs
 
 module _ (g : Groups) (sd : groupsSound g ≡ true) where
   words-list : map (λ i. getD (g .words) i 0) (positions (g .state .held)) ≡ wordsIn g
@@ -53,6 +62,19 @@ module _ (g : Groups) (sd : groupsSound g ≡ true) where
       (has-positions (λ i. eqb (getD (g .words) i 0) (groupWord k)) (g .state .held)
       ∙ sym (has-map (isWord (groupWord k)) (λ i. getD (g .words) i 0) (positions (g .state .held)))
       ∙ ap (has (isWord (groupWord k))) words-list)
+
+  -- a membership without a word is not held, nor is one of a fabric without words
+  pub no-member : (k : GroupKey) → count (isWord (groupWord k)) (wordsIn g) ≡ 0 → isMember k g ≡ false
+  no-member k z =
+      member-has k
+      ∙ ap (λ (o : Option ℕ). not (eqb (k .group) 0) && found o) (none-find (isWord (groupWord k)) (wordsIn g) z) ∙ and-false (not (eqb (k .group) 0))
+
+  pub no-members : (f e n : ℕ) → e < 2 ^ 16 → n < 2 ^ 16 → count (λ w. eqb (fabricOf w) f) (wordsIn g) ≡ 0 → isMember (groupKey f e n) g ≡ false
+  no-members f e n he hn z =
+      let w = groupWord (groupKey f e n) in
+      let its : eqb (fabricOf w) f ≡ true = eq-eqb (fabricOf w) f (omega arith) in
+      let own : (x : ℕ) → isWord w x ≡ true → eqb (fabricOf x) f ≡ true = λ x q. ap (λ (y : ℕ). eqb (fabricOf y) f) (eqb-true x w q) ∙ its in
+      no-member (groupKey f e n) (omega (arith, z, count-le (isWord w) (λ x. eqb (fabricOf x) f) own (wordsIn g)))
 
   words-in-range : everyBelow (λ i. groupSound (getD (g .words) i 0)) (g .state .held) ≡ true
   unfolding groupsSound
