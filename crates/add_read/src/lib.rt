@@ -1,4 +1,6 @@
 // Adding a scene by its raw field bytes: the pairs are read out of them.
+#![tactic(auto)]
+
 ghost use Rattle.std.specs.Prelude.{◌≡◌, true};
 ghost use Rattle.state.specs.Table.{table_of};
 ghost use Rattle.state.specs.Sound.{sound};

@@ -1,5 +1,7 @@
 // The calls that take a command's membership from the memberships that are held, and those that change scenes and memberships together. Each
 // tests the memberships, answers 6 if they are not sound, and makes the outward call of the same name otherwise.
+#![tactic(auto)]
+
 mod both;
 mod change;
 mod query;
@@ -13,7 +15,7 @@ use words::{GroupKey, SceneKey};
 
 // The heads of a scene table and of memberships about which nothing is known. A call hands the head of the table back, and that of the
 // memberships where it may change them.
-#[derive(Drop)]
+#[derive(Clone, Copy)]
 pub struct AskingHandler {
     pub state: ScenesState,
     pub groups: GroupsState,
@@ -21,7 +23,7 @@ pub struct AskingHandler {
 
 // What a call answers that may change both.
 #[repr(C)]
-#[derive(Drop)]
+#[derive(Clone, Copy)]
 pub struct BothOutcome {
     pub state: ScenesState,
     pub groups: GroupsState,

@@ -1,5 +1,7 @@
 // The commands that change a table that is known to be sound, apart from copies. Each has that one condition, and the outward call of the same
 // name meets it by its test. Beside them is `store_found`, for a caller that has found the scene too, as the test of the outward store does.
+#![tactic(auto)]
+
 ghost use Rattle.std.specs.Prelude.{◌≡◌, true, false, [], ◌∷◌, ◌++◌, ◌+◌, ◌<◌, ◌≤◌, length, take};
 ghost use Rattle.words.specs.Constants.{end_of_container, max_fields};
 ghost use Rattle.words.specs.Words.{word_of};
@@ -16,13 +18,13 @@ use state::{Outcome, ScenesState};
 use words::{Fault, Found, GroupKey, KeyRange, Limits, SceneKey, Slot, Status};
 
 // The head of a table that is known to be sound.
-#[derive(Drop)]
+#[derive(Clone, Copy)]
 pub struct Commands {
     pub state: ScenesState,
 }
 
 // Whether the host applied a recalled scene.
-#[derive(Drop)]
+#[derive(Clone, Copy)]
 pub enum Applied {
     Yes,
     Failed,
@@ -30,7 +32,7 @@ pub enum Applied {
 
 // What a store answers: as an outcome and, for the host alone, how many key words it held against the wanted one.
 #[repr(C)]
-#[derive(Drop)]
+#[derive(Clone, Copy)]
 pub struct Stored {
     pub state: ScenesState,
     pub status: u8,

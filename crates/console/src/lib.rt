@@ -1,4 +1,6 @@
 // Runs a script from standard input and writes its answers to standard output: scenebench and scenetrace are a call of it each.
+#![tactic(auto)]
+
 ghost use Rattle.std.specs.Prelude.{◌+◌, ◌≤◌, length};
 ghost use Rattle.words.specs.Constants.{max_scenes, max_memberships};
 ghost use Rattle.script_lines.specs.Lines.{most_image};
@@ -18,7 +20,7 @@ const OUT: usize = 0x9_0000;
 const HELD: usize = 0x1_0000;
 
 // What a part of the input leaves: the machine, how many bytes the line buffer holds, and whether the output still takes bytes.
-#[derive(Drop)]
+#[derive(Clone, Copy)]
 struct Fed {
     machine: Machine,
     held: usize,
@@ -26,7 +28,7 @@ struct Fed {
 }
 
 // What a line leaves: the machine, the next position of the output, and whether the output still takes bytes.
-#[derive(Drop)]
+#[derive(Clone, Copy)]
 struct Stepped {
     machine: Machine,
     at: usize,
@@ -34,7 +36,7 @@ struct Stepped {
 }
 
 // How many bytes were read, whether they are the last, and whether the input cannot be read on.
-#[derive(Drop)]
+#[derive(Clone, Copy)]
 struct Part {
     n: usize,
     last: bool,

@@ -1,5 +1,7 @@
 // Copies of one scene, or of a whole group, on a table that is known to be sound: `copy_scene` has that one condition, which the outward
 // call meets by a test.
+#![tactic(auto)]
+
 ghost use Rattle.std.specs.Prelude.{◌≡◌, true, ◌<◌};
 ghost use Rattle.words.specs.Constants.{not_found};
 ghost use Rattle.state.specs.Table.{table_of, entries_of, EntryRoom, CopyRoom};
@@ -13,13 +15,13 @@ use state::{Outcome, ScenesState};
 use words::{Found, GroupKey, KeyRange, SceneKey, Status};
 
 // The head of a table that is known to be sound.
-#[derive(Drop)]
+#[derive(Clone, Copy)]
 pub struct Copies {
     pub state: ScenesState,
 }
 
 // What a copy of entries answers, with the head.
-#[derive(Drop)]
+#[derive(Clone, Copy)]
 struct Copied {
     pub state: ScenesState,
     pub status: u8,

@@ -1,5 +1,7 @@
 // Makes every call on tables that are not sound, each in one way only, and says what was answered and whether anything changed. Beside
 // them a sound table, and one that holds no sense past its counts, which is sound too.
+#![tactic(auto)]
+
 ghost use Rattle.std.specs.Prelude.{◌≤◌};
 
 use damaged_calls::{CALLS, key, make};
@@ -14,7 +16,7 @@ const ROOM: usize = 1025;
 const FIELD_ROOM: usize = 132_225;
 
 // What a row shows of a call.
-#[derive(Drop)]
+#[derive(Clone, Copy)]
 struct Shown {
     status: u8,
     changed: bool,

@@ -1,4 +1,6 @@
 // Every call of the scene table, by its number, in the order that `damaged` prints them.
+#![tactic(auto)]
+
 use commands::Applied;
 use reads::Transition;
 use requests::{CopyRequest, GroupScene, Membership};
@@ -12,7 +14,7 @@ const CHANGES: u8 = 12;
 pub const CALLS: u8 = 18;
 
 // What a call answered, with the head that it handed back, and whether it wrote to a scene list buffer.
-#[derive(Drop)]
+#[derive(Clone, Copy)]
 pub struct Done {
     pub status: u8,
     pub save: bool,

@@ -1,1 +1,3 @@
 // Rows of the requirements, held against the definitions. This crate has definitions and theorems, and no code.
+
+#![tactic(auto)]

@@ -1,4 +1,6 @@
 // The pairs of field bytes, as a list in a lent buffer.
+#![tactic(auto)]
+
 ghost use Rattle.std.specs.Prelude.{◌≡◌, true, [], ◌∷◌};
 ghost use Rattle.text_output.specs.Writing.{sheet, put_byte, puts};
 ghost use Rattle.field_sets.specs.Reader.{pair_word, sets_in};
@@ -10,7 +12,7 @@ use words::{Fault, Status};
 
 // The answer: how many pairs stand in the buffer's front.
 #[repr(C)]
-#[derive(Drop)]
+#[derive(Clone, Copy)]
 pub struct PairsRead {
     pub status: u8,
     pub len: usize,

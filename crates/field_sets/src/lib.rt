@@ -1,4 +1,6 @@
 // The extension field sets in raw field bytes: each cluster with its attribute numbers, in order. It knows nothing of scenes.
+#![tactic(auto)]
+
 mod pairs;
 mod reader;
 mod sets;

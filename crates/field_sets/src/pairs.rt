@@ -7,7 +7,6 @@ use tlv::{Element, Next, Number, Parsed, TagType, ValueType, element_at, number_
 use tlv_skip::skip;
 
 // The context tags of sets and pairs, and how deep containers may stand in a value that is skipped.
-#[derive(Drop)]
 pub struct Layout;
 
 impl Layout {
@@ -20,21 +19,21 @@ impl Layout {
 }
 
 // A number below 2^32 that was read, or none so far.
-#[derive(Drop)]
+#[derive(Clone, Copy)]
 pub enum Id {
     Read(u32),
     Unread,
 }
 
 // A pair's attribute number and the position behind it, or none.
-#[derive(Drop)]
+#[derive(Clone, Copy)]
 pub enum Pair {
     Attribute(u32, usize),
     NoPair,
 }
 
 // An array of pairs: the position of the first, how many there are, and the position behind the array's end.
-#[derive(Drop)]
+#[derive(Clone, Copy)]
 pub enum Array {
     Pairs(usize, usize, usize),
     NoArray,

@@ -8,7 +8,7 @@ use crate::sets::{FieldSet, next_set};
 // Where the reader stands: `left` pairs are to come of the set that was yielded last, the next at `pair`, and behind them the next set
 // at `set`.
 #[repr(C)]
-#[derive(Drop)]
+#[derive(Clone, Copy)]
 pub struct Cursor {
     pub pair: usize,
     pub left: usize,
@@ -17,7 +17,7 @@ pub struct Cursor {
 
 // What the reader yields: a cluster or one of its attributes, with the cursor behind it; that it is done; or that the bytes are no list of
 // sets.
-#[derive(Drop)]
+#[derive(Clone, Copy)]
 pub enum Item {
     Cluster(u32, Cursor),
     Attribute(u32, Cursor),
@@ -26,7 +26,7 @@ pub enum Item {
 }
 
 // How many pairs the bytes hold, or that they are no list of sets.
-#[derive(Drop)]
+#[derive(Clone, Copy)]
 pub enum Total {
     Counted(usize),
     Unreadable,

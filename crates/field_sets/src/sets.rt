@@ -7,7 +7,7 @@ use tlv::{Element, Next, Parsed, ValueType, element_at};
 use tlv_skip::skip;
 
 // A set's cluster number, the position of its first pair, how many pairs it has and the position behind it; the end of the list; or neither.
-#[derive(Drop)]
+#[derive(Clone, Copy)]
 pub enum FieldSet {
     Set(u32, usize, usize, usize),
     End,

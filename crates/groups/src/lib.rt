@@ -1,4 +1,6 @@
 // The memberships that are held beside the scenes: fabric, endpoint and group, at most 256, as words in a lent slice of their own.
+#![tactic(auto)]
+
 ghost use Rattle.std.specs.Prelude.{◌≡◌, ◌≤◌, length};
 ghost use Rattle.groups.specs.Groups.{groups_of, with_held, group_word, group_sound, groups_sound, is_member, member_of, read_group, joined_of, join_gate, join_group, retain_groups};
 
@@ -7,14 +9,14 @@ use words::{Fault, GroupKey, KeyRange, KeyWord, Limits, SceneId, SceneKey, Statu
 
 // How many memberships are held.
 #[repr(C)]
-#[derive(Drop)]
+#[derive(Clone, Copy)]
 pub struct GroupsState {
     pub held: usize,
 }
 
 // What a join answers, with the head after it.
 #[repr(C)]
-#[derive(Drop)]
+#[derive(Clone, Copy)]
 pub struct GroupsOutcome {
     pub status: u8,
     pub state: GroupsState,
@@ -22,7 +24,7 @@ pub struct GroupsOutcome {
 
 // What a yes or no answers that is asked for by itself.
 #[repr(C)]
-#[derive(Drop)]
+#[derive(Clone, Copy)]
 pub struct GroupRead {
     pub status: u8,
     pub held: bool,

@@ -1,5 +1,7 @@
 // The calls of the scene table for hosts in C or Rust. Each is one call of the table; numbers stand for enums, and no reference
 // comes back. A lent slice is a pointer and a count of elements.
+#![tactic(auto)]
+
 ghost use Rattle.std.specs.Prelude.{◌≡◌};
 ghost use Rattle.state.specs.Table.{table_of, new_state, new_state_with};
 ghost use Rattle.state.specs.Sound.{sound};
@@ -27,7 +29,6 @@ use state::{Outcome, ScenesState};
 use words::{GroupKey, SceneKey};
 
 // What a host is compiled for: a change of a struct, an answer or a call of the C header steps the version, here and there.
-#[derive(Drop)]
 pub struct Interface;
 
 impl Interface {

@@ -1,4 +1,6 @@
 // The calls on raw field bytes for hosts in C or Rust: the reader, its pairs as a list, and the add through it.
+#![tactic(auto)]
+
 mod unchecked;
 
 ghost use Rattle.std.specs.Prelude.{◌≡◌};
@@ -19,7 +21,7 @@ use words::SceneKey;
 
 // What the reader yields: its kind, the number of a cluster or an attribute, and the cursor behind it.
 #[repr(C)]
-#[derive(Drop)]
+#[derive(Clone, Copy)]
 pub struct FieldItem {
     pub kind: u8,
     pub number: u32,

@@ -1,5 +1,7 @@
 // The calls of the memberships that are held beside the scenes, for hosts in C or Rust, as those of `host`: numbers stand for enums, and no
 // reference comes back. The memberships are a head of their own and a lent slice of words.
+#![tactic(auto)]
+
 mod both;
 mod change;
 mod query;

@@ -1,5 +1,7 @@
 // What hosts pass and get as numbers, where the calls take an enum, a truth value or hand out a part of a slice: every number means something,
 // and no reference crosses the boundary.
+#![tactic(auto)]
+
 ghost use Rattle.std.specs.Prelude.{◌≡◌, ◌<◌};
 ghost use Rattle.words.specs.Constants.{max_scenes};
 ghost use Rattle.host_numbers.specs.Numbers.{applied_of, transition_of, truth_of};
@@ -11,7 +13,7 @@ use words::Slot;
 
 // Where field bytes lie in the lent field slice.
 #[repr(C)]
-#[derive(Drop)]
+#[derive(Clone, Copy)]
 pub struct FieldBytes {
     pub offset: usize,
     pub len: usize,

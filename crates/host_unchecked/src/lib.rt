@@ -1,6 +1,8 @@
 // The calls of the scene table for hosts in C or Rust whose table nobody else can write. Each is the export of the crate `host` whose name it
 // has, without the test: it asks instead that the table is sound, which holds before every call on a table that began sound and that only
 // calls have written (`stays_sound` of the crate observation).
+#![tactic(auto)]
+
 ghost use Rattle.std.specs.Prelude.{◌≡◌, true};
 ghost use Rattle.state.specs.Table.{table_of};
 ghost use Rattle.state.specs.Sound.{sound};

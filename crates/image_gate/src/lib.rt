@@ -1,4 +1,6 @@
 // What refuses an image, 9 and 10: decided by reading alone.
+#![tactic(auto)]
+
 ghost use Rattle.std.specs.Prelude.{◌≡◌, cond, ◌<◌, ◌≤◌, length};
 ghost use Rattle.words.specs.Constants.{success, clashing_image, max_scenes};
 ghost use Rattle.image_reader.specs.Image.{records_from};

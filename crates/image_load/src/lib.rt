@@ -1,4 +1,6 @@
 // Loading an image into a table. All that refuses it is decided before the first write, and an image of no bytes is a startup.
+#![tactic(auto)]
+
 mod writing;
 
 ghost use Rattle.std.specs.Prelude.{◌≡◌, true};

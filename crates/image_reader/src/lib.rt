@@ -1,4 +1,6 @@
 // Entries and records of an image, as `from_tlv` takes them. The image is lent, and nothing is written.
+#![tactic(auto)]
+
 ghost use Rattle.std.specs.Prelude.{◌≡◌};
 ghost use Rattle.image_reader.specs.Entries.{entry_at, record_at};
 ghost use Rattle.image_reader.specs.Image.{arrays_in};
@@ -11,7 +13,7 @@ use tlv::{
 use words::{KeyWord, Limits};
 
 // An entry: its key word, its time, and where its field bytes stand in the image.
-#[derive(Drop)]
+#[derive(Clone, Copy)]
 pub struct Slot {
     pub key: u64,
     pub time: u32,
@@ -20,21 +22,20 @@ pub struct Slot {
 }
 
 // An entry, or none that can be read.
-#[derive(Drop)]
+#[derive(Clone, Copy)]
 pub enum Entry {
     Scene(Slot),
     NoEntry,
 }
 
 // Where the first member of each array stands, or that there are not both.
-#[derive(Drop)]
+#[derive(Clone, Copy)]
 pub enum Arrays {
     Both(usize, usize),
     NoArrays,
 }
 
 // The context tags in an image.
-#[derive(Drop)]
 struct Tag;
 
 impl Tag {

@@ -1,4 +1,6 @@
 // Saving the image of a table into a lent buffer.
+#![tactic(auto)]
+
 ghost use Rattle.std.specs.Prelude.{◌≡◌, true};
 ghost use Rattle.state.specs.Table.{table_of};
 ghost use Rattle.state.specs.Sound.{sound};
@@ -10,7 +12,7 @@ use words::{Fault, Status};
 
 // The answer: the head as it came, and how many bytes of the buffer are the image.
 #[repr(C)]
-#[derive(Drop)]
+#[derive(Clone, Copy)]
 pub struct ImageSaved {
     pub state: ScenesState,
     pub status: u8,

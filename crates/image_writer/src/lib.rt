@@ -1,4 +1,6 @@
 // The image of a table: how many bytes it takes, and writing it into a lent buffer. The caller sees to it that the buffer is long enough.
+#![tactic(auto)]
+
 mod sizes;
 mod writing;
 

@@ -10,7 +10,6 @@ use tlv::{number_size, octets_size};
 use words::{endpoint_of, fabric_of, group_of, key_of_record, scene_of};
 
 // How long an image can be.
-#[derive(Drop)]
 pub struct ImageLength;
 
 impl ImageLength {

@@ -11,7 +11,6 @@ use tlv::{ValueType, put_bool, put_head, put_number, put_octets, put_plain};
 use words::{endpoint_of, fabric_of, group_of, is_valid, key_of_record, scene_of};
 
 // The context tags in an image.
-#[derive(Drop)]
 struct Tag;
 
 impl Tag {

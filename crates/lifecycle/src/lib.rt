@@ -1,5 +1,7 @@
 // The attribute notice and the lifecycle calls on a table that is known to be sound. Each has that one condition, which the outward call of
 // the same name meets by a test.
+#![tactic(auto)]
+
 ghost use Rattle.std.specs.Prelude.{◌≡◌, true};
 ghost use Rattle.state.specs.Table.{table_of};
 ghost use Rattle.state.specs.Sound.{sound};
@@ -11,7 +13,7 @@ use state::{Outcome, ScenesState};
 use words::{KeyRange, Status};
 
 // The head of a table that is known to be sound.
-#[derive(Drop)]
+#[derive(Clone, Copy)]
 pub struct Lifecycle {
     pub state: ScenesState,
 }

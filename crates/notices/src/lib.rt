@@ -1,5 +1,7 @@
 // The attribute notice over a lent slice of record structs. `CurrentScene::notice` is the step on one record, `Pass::visit` what a
 // pass does at it; `notice_records` only walks. It has the outcome of the notice on the record words.
+#![tactic(auto)]
+
 ghost use Rattle.std.specs.Prelude.{◌≡◌, ◌<◌};
 ghost use Rattle.notices.specs.Notice.{hits, noticed, head_sound, answer_of, notice_records};
 ghost use Rattle.notices.specs.Pass.{begun, visit, outcome_of};
@@ -9,7 +11,7 @@ use words::{Fault, Limits, Status};
 
 // A fabric's current scene (the Rust's struct of that name).
 #[repr(C)]
-#[derive(Drop)]
+#[derive(Clone, Copy)]
 pub struct CurrentScene {
     pub fab_idx: u8,
     pub endpoint_id: u16,
@@ -20,14 +22,14 @@ pub struct CurrentScene {
 
 // A record after a notice, and whether it changed.
 #[repr(C)]
-#[derive(Drop)]
+#[derive(Clone, Copy)]
 pub struct Noticed {
     pub record: CurrentScene,
     pub changed: bool,
 }
 
 // A pass over the records below the count. A first round looks at each; only where all are sound does a second one clear.
-#[derive(Drop)]
+#[derive(Clone, Copy)]
 struct Pass {
     state: ScenesState,
     endpoint: u16,
@@ -39,7 +41,7 @@ struct Pass {
 }
 
 // A record after a visit, and the pass.
-#[derive(Drop)]
+#[derive(Clone, Copy)]
 struct Visited {
     record: CurrentScene,
     pass: Pass,

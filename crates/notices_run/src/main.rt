@@ -1,5 +1,7 @@
 // Runs the notice on record structs and the notice on record words on the same four records, row by row: `check::expect` holds both to
 // the same outcome, which is proved for every head, record and endpoint; what is written is what the structs' pass answered.
+#![tactic(auto)]
+
 ghost use Rattle.std.specs.Prelude.{◌≡◌, true, map};
 ghost use Rattle.notices.specs.Notice.{answer_of, notice_records};
 ghost use Rattle.notices.specs.Packed.{pack};
@@ -14,14 +16,14 @@ use state::{Outcome, ScenesState};
 use words::{KeyWord, SceneKey};
 
 // What the pass over structs left.
-#[derive(Drop)]
+#[derive(Clone, Copy)]
 struct Passed {
     outcome: Outcome,
     records: [CurrentScene; 4],
 }
 
 // What the pass over words left.
-#[derive(Drop)]
+#[derive(Clone, Copy)]
 struct PassedWords {
     outcome: Outcome,
     words: [u64; 4],

@@ -1,1 +1,3 @@
 // What members can see of a scene table. This crate has definitions and theorems, and no code.
+
+#![tactic(auto)]

@@ -1,5 +1,7 @@
 // The reads of a table that is known to be sound: view, recall's lookup, the field bytes at a position, membership and info. Each has that
 // one condition, which the outward call of the same name meets by a test.
+#![tactic(auto)]
+
 ghost use Rattle.std.specs.Prelude.{◌≡◌, true, false, ◌+◌, ◌*◌, ◌≤◌, min, length};
 ghost use Rattle.words.specs.Constants.{success, max_scenes, max_shown, stride};
 ghost use Rattle.slots.specs.Slots.{length_at};
@@ -14,7 +16,7 @@ use words::{EndpointKey, Fault, Found, GroupKey, KeyRange, Limits, SceneKey, Sta
 // What a view, or the lookup of a recall, answers: the time, the entry's position, and how many field bytes it has. A refusal has time 0,
 // a position past any table's entries, and length 0. The head is in front, as in `Outcome`.
 #[repr(C)]
-#[derive(Drop)]
+#[derive(Clone, Copy)]
 pub struct SceneRead {
     pub state: ScenesState,
     pub status: u8,
@@ -25,7 +27,7 @@ pub struct SceneRead {
 
 // What a membership read answers: the remaining capacity, and how many scene ids it wrote.
 #[repr(C)]
-#[derive(Drop)]
+#[derive(Clone, Copy)]
 pub struct ListRead {
     pub state: ScenesState,
     pub status: u8,
@@ -35,7 +37,7 @@ pub struct ListRead {
 
 // What an info read answers: whether there is a row, and the row.
 #[repr(C)]
-#[derive(Drop)]
+#[derive(Clone, Copy)]
 pub struct InfoRead {
     pub state: ScenesState,
     pub status: u8,
@@ -49,14 +51,14 @@ pub struct InfoRead {
 }
 
 // The transition time of a recall: the stored one, or the request's override.
-#[derive(Drop)]
+#[derive(Clone, Copy)]
 pub enum Transition {
     Stored,
     Given(u32),
 }
 
 // The head of a table that is known to be sound.
-#[derive(Drop)]
+#[derive(Clone, Copy)]
 pub struct Reads {
     pub state: ScenesState,
 }

@@ -1,4 +1,6 @@
 // Record words: the key word of a fabric's current scene, with a mark while it is valid.
+#![tactic(auto)]
+
 ghost use Rattle.std.specs.Prelude.{◌≡◌, ◌≤◌, length, ◌&&◌, eqb};
 ghost use Rattle.words.specs.Words.{group_of, scene_of, owns};
 ghost use Rattle.records.specs.Records.{record_sound, records_sound, first_owned, records_of, remember, in_scope, hits, any_hit, invalidated, others_of, moved};
@@ -7,7 +9,7 @@ use words::{Found, GroupKey, KeyWord, SceneKey};
 
 // Which records are invalidated: by scene those of its fabric, group and scene, by group those of its fabric and group, neither
 // by endpoint; by endpoint those of all fabrics.
-#[derive(Drop)]
+#[derive(Clone, Copy)]
 pub enum Scope {
     Scene(SceneKey),
     Group(GroupKey),

@@ -1,11 +1,13 @@
 // What a request alone decides: 0, or the number of its first refusal.
+#![tactic(auto)]
+
 ghost use Rattle.std.specs.Prelude.{◌≡◌};
 ghost use Rattle.requests.specs.Requests.{membership_of, or_next, fabric_gate, scene_gate, time_gate, member_gate, source_gate, target_gate, pairs_gate, fields_gate, capture_gate, whole_group, copied_gate, add_gate, store_gate, lookup_gate, group_gate, copy_gate, info_gate};
 
 use words::{Fault, GroupKey, Limits, Pair, SceneId, SceneKey, Status};
 
 // What the host's group table says of a group. It is looked at where a command consults it.
-#[derive(Drop)]
+#[derive(Clone, Copy)]
 pub enum Membership {
     Yes,
     No,
@@ -27,7 +29,7 @@ impl Membership {
 
 // A group and a scene in it.
 #[repr(C)]
-#[derive(Drop)]
+#[derive(Clone, Copy)]
 pub struct GroupScene {
     pub group: u16,
     pub scene: u8,
@@ -35,7 +37,7 @@ pub struct GroupScene {
 
 // What a copy asks for. Bit 0 of the mode means the whole group.
 #[repr(C)]
-#[derive(Drop)]
+#[derive(Clone, Copy)]
 pub struct CopyRequest {
     pub fabric: u8,
     pub endpoint: u16,

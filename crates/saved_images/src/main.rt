@@ -1,4 +1,6 @@
 // Runs scenetrace on images: saved, loaded and refused.
+#![tactic(auto)]
+
 fn main() {
     console::trace();
 }

@@ -1,5 +1,7 @@
 // The scene table of Scenes Management, as a host uses it: every call there is, total. Each tests the table, answers 6 if it is not sound,
 // and makes the call of the same name on a sound table otherwise: for a store `store_found`, since the test finds the scene on its way.
+#![tactic(auto)]
+
 mod change;
 mod event;
 mod query;
@@ -12,7 +14,7 @@ use words::Fault;
 
 // The head of a table about which nothing is known. The head's own operations are methods of `ScenesState`; a call takes the handler and
 // hands the head back.
-#[derive(Drop)]
+#[derive(Clone, Copy)]
 pub struct ScenesHandler {
     pub state: ScenesState,
 }

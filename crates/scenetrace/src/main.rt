@@ -1,4 +1,6 @@
 // Runs a script of any calls.
+#![tactic(auto)]
+
 fn main() {
     console::trace();
 }

@@ -1,4 +1,6 @@
 // Answers to the lines of a script: what they hold, and their text.
+#![tactic(auto)]
+
 mod answers;
 mod dump;
 
@@ -9,7 +11,7 @@ pub use dump::{put_groups, put_table};
 use state::{Outcome, ScenesState};
 
 // The row of an info read.
-#[derive(Drop)]
+#[derive(Clone, Copy)]
 pub struct Row {
     pub count: u8,
     pub group: u16,
@@ -22,7 +24,7 @@ pub struct Row {
 // What an answer has beyond its status: nothing, the time, position and length of a scene, the remaining capacity and the count of a
 // list, an info read with or without a row, the length of an image, or a number that only a trace shows: how many key words a store
 // compared, or whether a membership is held, 1 or 0.
-#[derive(Drop)]
+#[derive(Clone, Copy)]
 pub enum Tail {
     Nothing,
     Scene(u32, usize, usize),
@@ -34,7 +36,7 @@ pub enum Tail {
 }
 
 // An answer, with the head that it leaves.
-#[derive(Drop)]
+#[derive(Clone, Copy)]
 pub struct Answer {
     pub status: u8,
     pub save: bool,

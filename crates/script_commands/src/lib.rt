@@ -1,4 +1,6 @@
 // The commands of a script that change the table, one for each letter: inputs from the words of a line, one call, what it answers.
+#![tactic(auto)]
+
 ghost use Rattle.std.specs.Prelude.{◌≡◌};
 ghost use Rattle.state.specs.Table.{table_of};
 ghost use Rattle.script_lines.specs.Values.{bytes_at};

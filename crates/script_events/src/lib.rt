@@ -1,4 +1,6 @@
 // The events of a script: notices and lifecycle events of the host, and its raw writes.
+#![tactic(auto)]
+
 mod writes;
 
 ghost use Rattle.std.specs.Prelude.{◌≡◌};

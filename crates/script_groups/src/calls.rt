@@ -14,7 +14,7 @@ use script_asking::{asked_command, asked_query};
 use script_lines::{Line, asks, one_of};
 
 // An answer, with the head of the memberships that it leaves.
-#[derive(Drop)]
+#[derive(Clone, Copy)]
 pub struct GroupAnswer {
     pub answer: Answer,
     pub groups: GroupsState,

@@ -1,4 +1,6 @@
 // The lines of a script that need the memberships: joining, leaving, asking, a raw write, the events that drop them, and `?`.
+#![tactic(auto)]
+
 mod calls;
 mod memberships;
 

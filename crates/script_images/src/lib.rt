@@ -1,4 +1,6 @@
 // The images of a script: one is saved, or loaded.
+#![tactic(auto)]
+
 ghost use Rattle.std.specs.Prelude.{◌≡◌};
 ghost use Rattle.state.specs.Table.{table_of};
 ghost use Rattle.script_lines.specs.Values.{bytes_at};

@@ -1,4 +1,6 @@
 // Lines of a script: a letter and the words behind it, as they are read from text, and what the words name. No table.
+#![tactic(auto)]
+
 mod reader;
 mod values;
 

@@ -7,7 +7,7 @@ use text_input::{Word, digits, hex, next_word, number, same};
 use text_output::Reason;
 
 // The kinds of words.
-#[derive(Drop)]
+#[derive(Clone, Copy)]
 enum Kind {
     // No further word.
     End,
@@ -31,7 +31,6 @@ enum Kind {
     Length(u64),
 }
 
-#[derive(Drop)]
 pub struct Bounds;
 
 impl Bounds {
@@ -57,7 +56,7 @@ impl Bounds {
 }
 
 // What is to be done with a line: nothing, what it says, or to say why it is not understood.
-#[derive(Drop)]
+#[derive(Clone, Copy)]
 pub enum Verdict {
     Nothing,
     Call,
@@ -65,7 +64,7 @@ pub enum Verdict {
 }
 
 // What a line says: its letter and, for each word, its number or its count of bytes, and where it starts.
-#[derive(Drop)]
+#[derive(Clone, Copy)]
 pub struct Line {
     pub verdict: Verdict,
     pub letter: u8,
@@ -248,7 +247,7 @@ fn read_word(word: &mut [u8], kind: Kind, trace: bool) -> Word
 }
 
 // A word that was read, and its positions.
-#[derive(Drop)]
+#[derive(Clone, Copy)]
 struct Reading {
     word: Word,
     from: usize,

@@ -1,5 +1,7 @@
 // What a run of a script keeps from line to line, and the lines that need no call of the table: a new table, the table as it stands, the sets in
 // field bytes, and a line that is not understood.
+#![tactic(auto)]
+
 ghost use Rattle.std.specs.Prelude.{◌≡◌};
 ghost use Rattle.state.specs.Table.{table_of};
 ghost use Rattle.text_output.specs.Writing.{writes};
@@ -20,7 +22,7 @@ use text_output::{Reason, put_error};
 
 // What a run keeps from line to line: the heads of the table and of the memberships, whether there is a table, whether every call may be
 // made or only those of scenebench, and how many lines were read.
-#[derive(Drop)]
+#[derive(Clone, Copy)]
 pub struct Machine {
     pub state: ScenesState,
     pub groups: GroupsState,
@@ -30,7 +32,7 @@ pub struct Machine {
 }
 
 // What a line leaves: the machine, and the next position of the output.
-#[derive(Drop)]
+#[derive(Clone, Copy)]
 pub struct Ran {
     pub machine: Machine,
     pub at: usize,

@@ -1,4 +1,6 @@
 // The reads of a script, and its recall, one for each letter: inputs from the words of a line, what the table is asked, what it answers.
+#![tactic(auto)]
+
 ghost use Rattle.std.specs.Prelude.{◌≡◌};
 ghost use Rattle.state.specs.Table.{table_of};
 ghost use Rattle.script_answers.specs.Done.{done_of, called_of};

@@ -1,4 +1,6 @@
 // The answer to a line of a script that asks for the sets in field bytes.
+#![tactic(auto)]
+
 ghost use Rattle.std.specs.Prelude.{◌≡◌, []};
 ghost use Rattle.std.proofs.Math.Option.{IsSome, get_or};
 ghost use Rattle.text_output.specs.Writing.{sheet, puts};

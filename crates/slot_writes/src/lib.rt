@@ -1,4 +1,6 @@
 // Entries written to the lent slices: a new one, a copy under another key, one moved to an earlier position, and all of a range dropped.
+#![tactic(auto)]
+
 ghost use Rattle.std.specs.Prelude.{◌≡◌, ◌+◌, ◌*◌, ◌<◌, ◌≤◌, length, get_or};
 ghost use Rattle.words.specs.Constants.{stride, max_fields};
 ghost use Rattle.slots.specs.Slots.{length_at, fields_at, overlay, slots_of, put_slot, copy_slot, length_then, part, outside, gathered};

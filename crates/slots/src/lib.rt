@@ -1,5 +1,7 @@
 // The lent slices of the entries: key words, times, and for each entry a length byte with room for its fields. Here they are read; the crate
 // slot_writes writes them.
+#![tactic(auto)]
+
 ghost use Rattle.std.specs.Prelude.{◌≡◌, true, not, ◌&&◌, ◌+◌, ◌*◌, ◌<◌, ◌≤◌, length, get_or, eqb, leb};
 ghost use Rattle.words.specs.Constants.{stride, max_fields};
 ghost use Rattle.words.specs.Below.{every_below};
@@ -9,7 +11,7 @@ ghost use Rattle.slots.specs.Slots.{first_key, count_keys, keys_sound, lengths_s
 use words::{Found, KeyRange, KeyWord, Limits, Slot};
 
 // What one walk over the entries tells: that one of them is not sound, or that all are and where a key word stands.
-#[derive(Drop)]
+#[derive(Clone, Copy)]
 pub enum Search {
     Unsound,
     Sound(Found),

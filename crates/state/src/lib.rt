@@ -1,5 +1,7 @@
 // The head of a scene table and its own operations. The head is passed by value, its memory is lent, and each operation is a method that
 // hands the head back. An operation that writes has conditions, which the calls of the crates above meet.
+#![tactic(auto)]
+
 mod current;
 mod table;
 
@@ -9,7 +11,7 @@ ghost use Rattle.state.specs.Table.{new_state, new_state_with, with_entry_count,
 // The head of a scene table. Its memory is lent to each operation: a key word, a time and 129 field bytes for each of `size`
 // entries, and a record word for each of `size` records.
 #[repr(C)]
-#[derive(Drop)]
+#[derive(Clone, Copy)]
 pub struct ScenesState {
     // N: how many entries, and how many records, the table can hold.
     pub size: usize,
@@ -22,7 +24,6 @@ pub struct ScenesState {
 }
 
 // The modes of a table. Bit 0 is the share mode; the other bits are kept and mean nothing.
-#[derive(Drop)]
 pub struct Modes;
 
 impl Modes {
@@ -35,7 +36,7 @@ impl Modes {
 // What a command answers: the head, its status or fault, and whether the host has to save the table. The head is in front, here and
 // below: behind single bytes it would be copied across the words it consists of.
 #[repr(C)]
-#[derive(Drop)]
+#[derive(Clone, Copy)]
 pub struct Outcome {
     pub state: ScenesState,
     pub status: u8,

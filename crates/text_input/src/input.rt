@@ -5,14 +5,14 @@ ghost use Rattle.text_input.specs.Reading.{blank, in_word, past, word_from, digi
 use text_output::Reason;
 
 // What a word says: a number, or how many bytes it was turned into; or why it is not understood.
-#[derive(Drop)]
+#[derive(Clone, Copy)]
 pub enum Word {
     Value(u64),
     Wrong(Reason),
 }
 
 // The positions of a word: from `from` on and below `to`. None where the line has no further word.
-#[derive(Drop)]
+#[derive(Clone, Copy)]
 pub struct Span {
     pub from: usize,
     pub to: usize,

@@ -1,4 +1,6 @@
 // Text that is read out of lent buffers: lines out of chunks of input, and the words of a line. It knows nothing of scenes.
+#![tactic(auto)]
+
 mod input;
 mod lines;
 

@@ -4,7 +4,7 @@ ghost use Rattle.text_input.specs.Gathering.{Gathers};
 use text_output::put;
 
 // Where the chunk was left, how many bytes the line has so far, and whether its end was met.
-#[derive(Drop)]
+#[derive(Clone, Copy)]
 pub struct Gathered {
     pub next: usize,
     pub held: usize,

@@ -1,4 +1,6 @@
 // Text that is written into a lent buffer. It knows nothing of scenes.
+#![tactic(auto)]
+
 mod output;
 mod reason;
 

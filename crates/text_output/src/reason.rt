@@ -1,5 +1,5 @@
 // Why a line is not understood.
-#[derive(Drop)]
+#[derive(Clone, Copy)]
 pub enum Reason {
     Unknown,
     Missing,

@@ -6,7 +6,7 @@ use crate::types::{TagType, ValueType};
 
 // An element: its type, its tag control, the number of a context tag, where its value starts, and what stands behind it. A container's
 // value is empty here: its first member stands behind its head.
-#[derive(Drop)]
+#[derive(Clone, Copy)]
 pub struct Element {
     pub kind: u8,
     pub form: u8,
@@ -16,7 +16,7 @@ pub struct Element {
 }
 
 // What stands at a position: an element, or nothing that can be read.
-#[derive(Drop)]
+#[derive(Clone, Copy)]
 pub enum Parsed {
     Whole(Element),
     Malformed,

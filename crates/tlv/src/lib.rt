@@ -1,4 +1,6 @@
 // TLV in lent bytes: elements, members of containers, and what is written. It knows nothing of scenes.
+#![tactic(auto)]
+
 mod elements;
 mod encoding;
 mod members;

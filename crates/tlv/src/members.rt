@@ -7,7 +7,7 @@ use crate::passing::{Next, container_next, is_container};
 use crate::types::ValueType;
 
 // What stands at a position in a container: a member and the position behind all of it, the end, or nothing that can be read.
-#[derive(Drop)]
+#[derive(Clone, Copy)]
 pub enum Step {
     Member(Element, usize),
     End,

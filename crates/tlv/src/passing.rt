@@ -7,7 +7,7 @@ use crate::elements::{Parsed, element_at};
 use crate::types::ValueType;
 
 // The position behind an element, or none where the bytes are broken.
-#[derive(Drop)]
+#[derive(Clone, Copy)]
 pub enum Next {
     At(usize),
     Broken,

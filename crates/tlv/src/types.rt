@@ -1,5 +1,4 @@
 // The element types and the tag controls, by the names of the Rust's `TLVValueType` and `TLVTagType`.
-#[derive(Drop)]
 pub struct ValueType;
 
 impl ValueType {
@@ -60,7 +59,6 @@ impl ValueType {
     pub const WIDTHS: u8 = 4;
 }
 
-#[derive(Drop)]
 pub struct TagType;
 
 impl TagType {

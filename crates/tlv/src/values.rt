@@ -7,21 +7,21 @@ use crate::passing::Next;
 use crate::types::ValueType;
 
 // An unsigned number, or none.
-#[derive(Drop)]
+#[derive(Clone, Copy)]
 pub enum Number {
     Value(u64),
     NoNumber,
 }
 
 // A boolean, or none.
-#[derive(Drop)]
+#[derive(Clone, Copy)]
 pub enum Boolean {
     Is(bool),
     NoBoolean,
 }
 
 // The positions of an octet string, from the first on and below the second, or none.
-#[derive(Drop)]
+#[derive(Clone, Copy)]
 pub enum Octets {
     Span(usize, usize),
     NoOctets,

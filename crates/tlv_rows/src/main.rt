@@ -1,6 +1,8 @@
 // Runs the readers on the bytes of the rows of `tlv`'s table of worked encodings (specs/Worked.antt), in its order, and writes a line for
 // each: the bytes; every element's type, tag control, context tag, value's position and position behind, and what an unsigned number, a
 // boolean or an octet string says; the position behind all of the first element.
+#![tactic(auto)]
+
 use libc::STDOUT_FILENO;
 use tlv::{
     Boolean, Element, Next, Number, Octets, Parsed, ValueType, bool_at, container_next, element_at,

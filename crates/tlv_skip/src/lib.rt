@@ -1,4 +1,6 @@
 // Skipping an element with whatever it holds, to a depth.
+#![tactic(auto)]
+
 ghost use Rattle.std.specs.Prelude.{◌≡◌};
 ghost use Rattle.tlv_skip.specs.Skipping.{skipped};
 

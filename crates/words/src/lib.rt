@@ -1,9 +1,10 @@
 // Key words, record words and ranges of key words, with the constants of the scene table.
+#![tactic(auto)]
+
 ghost use Rattle.std.specs.Prelude.{◌≡◌, min};
 ghost use Rattle.words.specs.Words.{word_of, fabric_of, endpoint_of, group_of, scene_of, key_of_record, is_valid, valid_record, within};
 
 // Status bytes that a command answers.
-#[derive(Drop)]
 pub struct Status;
 
 impl Status {
@@ -19,7 +20,6 @@ impl Status {
 }
 
 // Faults: refusals that the host or whoever lends the memory causes, and 5, which a member causes.
-#[derive(Drop)]
 pub struct Fault;
 
 impl Fault {
@@ -49,7 +49,6 @@ impl Fault {
 }
 
 // Scene ids that no command may name.
-#[derive(Drop)]
 pub struct SceneId;
 
 impl SceneId {
@@ -59,7 +58,6 @@ impl SceneId {
 }
 
 // What a pair byte of an add says of an attribute: 1 is scenable.
-#[derive(Drop)]
 pub struct Pair;
 
 impl Pair {
@@ -68,7 +66,6 @@ impl Pair {
     pub const CLUSTER_UNKNOWN: u8 = 2;
 }
 
-#[derive(Drop)]
 pub struct Limits;
 
 impl Limits {
@@ -91,7 +88,6 @@ impl Limits {
 }
 
 // How an entry lies in the lent field bytes: its length, then room for its fields.
-#[derive(Drop)]
 pub struct Slot;
 
 impl Slot {
@@ -102,7 +98,6 @@ impl Slot {
 }
 
 // The units of a key word's parts, the marks of record words, and what a sound key word's upper half is.
-#[derive(Drop)]
 pub struct KeyWord;
 
 impl KeyWord {
@@ -130,7 +125,7 @@ impl KeyWord {
 
 // The scene that a command names, or that a record remembers.
 #[repr(C)]
-#[derive(Drop)]
+#[derive(Clone, Copy)]
 pub struct SceneKey {
     pub fabric: u8,
     pub endpoint: u16,
@@ -140,7 +135,7 @@ pub struct SceneKey {
 
 // A group of a fabric on an endpoint.
 #[repr(C)]
-#[derive(Drop)]
+#[derive(Clone, Copy)]
 pub struct GroupKey {
     pub fabric: u8,
     pub endpoint: u16,
@@ -148,14 +143,14 @@ pub struct GroupKey {
 }
 
 // A fabric on an endpoint.
-#[derive(Drop)]
+#[derive(Clone, Copy)]
 pub struct EndpointKey {
     pub fabric: u8,
     pub endpoint: u16,
 }
 
 // The key words of a fabric, of a fabric on an endpoint, or of a fabric in a group on an endpoint.
-#[derive(Drop)]
+#[derive(Clone, Copy)]
 pub enum KeyRange {
     Fabric(u8),
     Endpoint(EndpointKey),
@@ -163,7 +158,7 @@ pub enum KeyRange {
 }
 
 // The position of what was looked for, if there is one.
-#[derive(Drop)]
+#[derive(Clone, Copy)]
 pub enum Found {
     At(usize),
     Nothing,
