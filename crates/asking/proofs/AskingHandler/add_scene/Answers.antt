@@ -1,0 +1,42 @@
+-- `AskingHandler::add_scene` meets its contract: on sound memberships it is the call of this name that is told what they hold, and on any
+-- others it answers 6. Assumes nothing.
+use mathlib.Core.Path.{sym, ◌∙◌}
+use Rattle.state.specs.Table.{Table, table_of}
+use Rattle.state.specs.Answer.{refused}
+use Rattle.commands.specs.Commands.{add_scene}
+use Rattle.groups.specs.Groups.{Groups, groups_of}
+use Rattle.groups.proofs.Laws.{groups_fit}
+use Rattle.asking.specs.Asking.{group_of_scene, add_asking}
+use Rattle.asking.proofs.Laws.{asks_told, unsound-asked}
+use borrow.Author.Rules.{rules}
+use Rattle.asking.proofs.AskingHandler.add_scene.Goals as goal
+
+pub member-member-requires : goal.member-member-requires
+member-member-requires c =
+    groups_fit _ (sym c.is_sound.ensures ∙ c.if-is_sound.true)
+
+pub returns-then-is_sound : goal.returns-then-is_sound
+unfolding add_asking
+returns-then-is_sound c =
+    let came : Table = let a = c.args in
+    table_of a.self.state a.keys.now a.times.now a.fields.now a.records.now in
+    let held : Groups = let a = c.args in
+    groups_of a.self.groups a.words.now in
+    let a = c.args in
+    asks_told held
+    (refused came)
+    (λ member. add_scene a.key a.time member a.pairs.now a.ext.now came)
+    (group_of_scene a.key)
+    (sym c.is_sound.ensures ∙ c.if-is_sound.true)
+    c.group_of_scene.ensures
+    c.member-member.ensures
+    c.add_scene.ensures
+
+pub returns : goal.returns
+unfolding add_asking
+returns c =
+    let came : Table = let a = c.args in
+    table_of a.self.state a.keys.now a.times.now a.fields.now a.records.now in
+    let held : Groups = let a = c.args in
+    groups_of a.self.groups a.words.now in
+    unsound-asked held (sym c.is_sound.ensures ∙ c.if-is_sound.false) came _ _ c.unsaved.ensures

@@ -1,0 +1,52 @@
+-- `Copies::copy_scenes_inner` meets its contract. Assumes nothing.
+use mathlib.Core.Path.{◌≡◌, sym, ap, ◌∙◌, subst⁻¹}
+use native.Mathlib.Omega.{arith}
+use borrow.Author.Rules.{rules}
+use Rattle.records.specs.declared.Scope.{Scope}
+use Rattle.state.specs.declared.ScenesState.{ScenesState}
+use Rattle.state.specs.Table.{Table, table_of, Entries, entries_of, current_of}
+use Rattle.state.specs.Capacity.{room_for}
+use Rattle.state.specs.Current.{invalidate_current}
+use Rattle.state.proofs.Guard.{result_in}
+use Rattle.copies.specs.Copy.{Copied, copied_of, copy_sources}
+use Rattle.copies.proofs.Laws.{Kept, sources_kept, inner_none, inner_stopped, inner_done}
+use Rattle.copies.proofs.Copies.copy_scenes_inner.Goals as goal
+
+pub returns-then-room_for_fab-eq0 : goal.returns-then-room_for_fab-eq0
+returns-then-room_for_fab-eq0 c =
+    let came : Table = let a = c.args in
+    table_of a.self.state a.keys.now a.times.now a.fields.now a.records.now in
+    let t = came in
+    ap (result_in t.slots t.records) c.unsaved.ensures
+    ∙ inner_none c.args.c t (sym c.room_for_fab.ensures ∙ c.if-room_for_fab-eq0.true)
+
+pub returns-then-status-ne-SUCCESS : goal.returns-then-status-ne-SUCCESS
+returns-then-status-ne-SUCCESS c =
+    let came : Table = let a = c.args in
+    table_of a.self.state a.keys.now a.times.now a.fields.now a.records.now in
+    let made : Copied = copied_of c.copy_sources-done.result.status (entries_of c.copy_sources-done.result.state c.copy_sources-done.new.keys c.copy_sources-done.new.times c.copy_sources-done.new.fields) in
+    let some_left : (let t = came in room_for t.state t.slots.keys c.args.c.fabric ≡ 0 → ⊥) = λ z. c.if-room_for_fab-eq0.false (c.room_for_fab.ensures ∙ z) in
+    let t = came in
+    ap (result_in made.entries.slots t.records) c.unsaved-then-status-ne-SUCCESS.ensures
+    ∙ inner_stopped c.args.c t some_left {o = made} c.copy_sources-done.ensures c.if-status-ne-SUCCESS.true
+
+pub invalidate_current-requires : goal.invalidate_current-requires
+invalidate_current-requires c =
+    let came : Table = let a = c.args in
+    table_of a.self.state a.keys.now a.times.now a.fields.now a.records.now in
+    let made : Copied = copied_of c.copy_sources-done.result.status (entries_of c.copy_sources-done.result.state c.copy_sources-done.new.keys c.copy_sources-done.new.times c.copy_sources-done.new.fields) in
+    let kept : (let t = came in Kept (record { state = t.state; slots = t.slots }) made.entries) = let t = came in
+    let e : Entries = record { state = t.state; slots = t.slots } in
+    subst⁻¹ (λ (o : Copied). Kept e o.entries) {x = made} {y = copy_sources c.args.c e} c.copy_sources-done.ensures (sources_kept c.args.c e c.requires.entries) in
+    omega (arith, ap (λ (s : ScenesState). s.recorded) kept.head, c.requires.recorded)
+
+pub returns : goal.returns
+returns c =
+    let came : Table = let a = c.args in
+    table_of a.self.state a.keys.now a.times.now a.fields.now a.records.now in
+    let made : Copied = copied_of c.copy_sources-done.result.status (entries_of c.copy_sources-done.result.state c.copy_sources-done.new.keys c.copy_sources-done.new.times c.copy_sources-done.new.fields) in
+    let some_left : (let t = came in room_for t.state t.slots.keys c.args.c.fabric ≡ 0 → ⊥) = λ z. c.if-room_for_fab-eq0.false (c.room_for_fab.ensures ∙ z) in
+    let t = came in
+    let current = current_of made.entries.state t.records in
+    inner_done c.args.c t some_left {o = made} c.copy_sources-done.ensures c.if-status-ne-SUCCESS.false
+    (c.invalidate_current.ensures ∙ ap (λ (s : Scope). invalidate_current s current) c.target_scope.ensures)

@@ -1,0 +1,7 @@
+-- `host::scenes_factory_reset` meets its contract. Assumes nothing.
+use borrow.Author.Rules.{rules}
+use Rattle.host.proofs.scenes_factory_reset.Goals as goal
+
+pub returns : goal.returns
+returns c =
+    c.factory_reset.ensures

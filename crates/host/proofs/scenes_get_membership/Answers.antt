@@ -1,0 +1,7 @@
+-- `host::scenes_get_membership` meets its contract. Assumes nothing.
+use borrow.Author.Rules.{rules}
+use Rattle.host.proofs.scenes_get_membership.Goals as goal
+
+pub returns : goal.returns
+returns c =
+    rw (← c.of_number.ensures) c.get_scene_membership.ensures

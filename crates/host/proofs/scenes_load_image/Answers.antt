@@ -1,0 +1,7 @@
+-- `host::scenes_load_image` meets its contract. Assumes nothing.
+use borrow.Author.Rules.{rules}
+use Rattle.host.proofs.scenes_load_image.Goals as goal
+
+pub returns : goal.returns
+returns c =
+    c.load_image.ensures

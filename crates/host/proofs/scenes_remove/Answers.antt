@@ -1,0 +1,7 @@
+-- `host::scenes_remove` meets its contract. Assumes nothing.
+use borrow.Author.Rules.{rules}
+use Rattle.host.proofs.scenes_remove.Goals as goal
+
+pub returns : goal.returns
+returns c =
+    rw (← c.of_number.ensures) c.remove_scene.ensures

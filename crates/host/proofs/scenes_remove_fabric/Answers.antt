@@ -1,0 +1,7 @@
+-- `host::scenes_remove_fabric` meets its contract. Assumes nothing.
+use borrow.Author.Rules.{rules}
+use Rattle.host.proofs.scenes_remove_fabric.Goals as goal
+
+pub returns : goal.returns
+returns c =
+    c.remove_for_fabric.ensures

@@ -1,0 +1,7 @@
+-- `host::scenes_view` meets its contract. Assumes nothing.
+use borrow.Author.Rules.{rules}
+use Rattle.host.proofs.scenes_view.Goals as goal
+
+pub returns : goal.returns
+returns c =
+    rw (← c.of_number.ensures) c.view_scene.ensures

@@ -1,0 +1,7 @@
+-- `host_groups::scenes_view_asking` meets its contract. Assumes nothing.
+use borrow.Author.Rules.{rules}
+use Rattle.host_groups.proofs.query.scenes_view_asking.Goals as goal
+
+pub returns : goal.returns
+returns c =
+    c.view_scene.ensures

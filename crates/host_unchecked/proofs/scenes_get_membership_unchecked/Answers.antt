@@ -1,0 +1,7 @@
+-- `host_unchecked::scenes_get_membership_unchecked` meets its contract. Assumes nothing.
+use borrow.Author.Rules.{rules}
+use Rattle.host_unchecked.proofs.scenes_get_membership_unchecked.Goals as goal
+
+pub returns : goal.returns
+returns c =
+    rw (← c.of_number.ensures) c.get_scene_membership.ensures

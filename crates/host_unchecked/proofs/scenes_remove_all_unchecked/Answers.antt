@@ -1,0 +1,7 @@
+-- `host_unchecked::scenes_remove_all_unchecked` meets its contract. Assumes nothing.
+use borrow.Author.Rules.{rules}
+use Rattle.host_unchecked.proofs.scenes_remove_all_unchecked.Goals as goal
+
+pub returns : goal.returns
+returns c =
+    rw (← c.of_number.ensures) c.remove_all_scenes.ensures

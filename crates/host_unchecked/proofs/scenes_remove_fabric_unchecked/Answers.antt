@@ -1,0 +1,7 @@
+-- `host_unchecked::scenes_remove_fabric_unchecked` meets its contract. Assumes nothing.
+use borrow.Author.Rules.{rules}
+use Rattle.host_unchecked.proofs.scenes_remove_fabric_unchecked.Goals as goal
+
+pub returns : goal.returns
+returns c =
+    c.remove_for_fabric.ensures

@@ -1,0 +1,7 @@
+-- `host_unchecked::scenes_store_unchecked` meets its contract. Assumes nothing.
+use borrow.Author.Rules.{rules}
+use Rattle.host_unchecked.proofs.scenes_store_unchecked.Goals as goal
+
+pub returns : goal.returns
+returns c =
+    rw (← c.of_number.ensures) c.store_scene.ensures

@@ -1,0 +1,17 @@
+-- `image_gate::key_clashes` meets its contract. Assumes nothing.
+use mathlib.Core.Path.{sym, ◌∙◌}
+use native.Mathlib.Omega.{arith}
+use borrow.Author.Rules.{rules}
+use Rattle.image_gate.proofs.key_clashes.Goals as goal
+
+pub returns-then-is_barred : goal.returns-then-is_barred
+returns-then-is_barred c =
+    rw (sym c.is_barred.ensures ∙ c.if-is_barred.true)
+
+pub returns-in_default : goal.returns-in_default
+returns-in_default c =
+    rw (sym c.is_barred.ensures ∙ c.if-is_barred.false, sym c.find.ensures ∙ c.in_default.is)
+
+pub returns : goal.returns
+returns c =
+    rw (sym c.is_barred.ensures ∙ c.if-is_barred.false, sym c.find.ensures ∙ c.in-At.is)

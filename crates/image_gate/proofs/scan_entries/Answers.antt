@@ -1,0 +1,63 @@
+-- `image_gate::scan_entries` meets its contract. Assumes nothing.
+use Prim.Native.Nat.{◌-◌}
+use mathlib.Core.Path.{sym, ap, ◌∙◌}
+use native.Mathlib.Omega.{arith}
+use lib.ListN.{length}
+use Rattle.tlv.proofs.Walks.{member_on}
+use Rattle.image_reader.specs.Entries.{entry_at}
+use Rattle.image_gate.specs.Deciding.{key_in}
+use Rattle.image_gate.specs.Verdict.{key_clashes}
+use Rattle.image_gate.proofs.Scanning.{Turn, keys_local, turn_start, turn_end, turn_damaged, turn_unread, turn_full, turn_room, turn_next}
+use borrow.Author.Rules.{rules}
+use Rattle.image_gate.proofs.scan_entries.Goals as goal
+
+pub loop-next-init : goal.loop-next-init
+loop-next-init c =
+    turn_start _ _ _ _ _ _ c.requires
+
+pub shape_of-seen-in_default : goal.shape_of-seen-in_default
+shape_of-seen-in_default c =
+    c.loop-next.inv.same_length
+
+pub returns-in_default : goal.returns-in_default
+returns-in_default c =
+    turn_unread keys_local c.loop-next.invariant _ _ (sym c.member_at-step.ensures ∙ c.in-Member.is)
+    (ap key_in (sym c.entry_at.ensures ∙ c.in_default.is))
+
+pub shape_of-seen-then-most-n : goal.shape_of-seen-then-most-n
+shape_of-seen-then-most-n c =
+    c.loop-next.inv.same_length
+
+pub returns-then-most-n : goal.returns-then-most-n
+returns-then-most-n c =
+    turn_full keys_local c.loop-next.inv _ _ (sym c.member_at-step.ensures ∙ c.in-Member.is) _
+    (ap key_in (sym c.entry_at.ensures ∙ c.in-Scene.is)) c.if-most-n.true
+
+pub key_clashes-clash-requires : goal.key_clashes-clash-requires
+key_clashes-clash-requires c =
+    turn_room keys_local c.loop-next.inv c.if-most-n.false _
+
+pub loop-next-smaller : goal.loop-next-smaller
+loop-next-smaller c =
+    omega (arith, member_on _ _ _ _ (sym c.member_at-step.ensures ∙ c.in-Member.is))
+
+pub loop-next-preserved : goal.loop-next-preserved
+loop-next-preserved c =
+    turn_next keys_local c.loop-next.inv _ _ (sym c.member_at-step.ensures ∙ c.in-Member.is) _
+    (ap key_in (sym c.entry_at.ensures ∙ c.in-Scene.is)) c.if-most-n.false _ c.key_clashes-clash.ensures
+
+pub shape_of-seen-in-End : goal.shape_of-seen-in-End
+shape_of-seen-in-End c =
+    c.loop-next.invariant.same_length
+
+pub returns-in-End : goal.returns-in-End
+returns-in-End c =
+    c.clash_fault.ensures ∙ turn_end keys_local c.loop-next.invariant (sym c.member_at-step.ensures ∙ c.in-End.is)
+
+pub shape_of-seen-in-Damaged : goal.shape_of-seen-in-Damaged
+shape_of-seen-in-Damaged c =
+    c.loop-next.invariant.same_length
+
+pub returns-in-Damaged : goal.returns-in-Damaged
+returns-in-Damaged c =
+    turn_damaged keys_local c.loop-next.invariant (sym c.member_at-step.ensures ∙ c.in-Damaged.is)

@@ -1,0 +1,16 @@
+-- `image_writer::writing::put_records` meets its contract. Assumes nothing.
+use Prim.Native.Nat.{◌-◌, ◌≤◌}
+use mathlib.Core.Path.{◌≡◌, refl, ap, ◌∙◌}
+use native.Mathlib.Omega.{arith}
+use borrow.Author.Rules.{rules}
+use lib.ListN.{length}
+use Rattle.text_output.specs.Writing.{sheet, puts}
+use Rattle.image_writer.proofs.Firsts.{records_up_to, records_none, records_more, put_more, put_none}
+use Rattle.image_writer.proofs.writing.put_records.Given as goal
+
+-- the first i records stand behind one another
+abbrev pub invariant-loop-i : goal.invariant-loop-i
+invariant-loop-i l = (l.i ≤ l.n) × (length l.out ≡ length l.initial.out) × (sheet l.out l.next ≡ puts (records_up_to l.records l.i) (sheet l.initial.out l.at))
+
+abbrev pub decreases-loop-i : goal.decreases-loop-i
+decreases-loop-i l = l.n - l.i

@@ -1,0 +1,13 @@
+-- `Pass::begin` meets its contract. Assumes nothing.
+use mathlib.Core.Path.{refl, sym, ◌∙◌}
+use borrow.Author.Rules.{rules}
+use borrow.Author.Tests.{not_true, not_false}
+use Rattle.notices.proofs.Pass.begin.Goals as goal
+
+pub returns-then-not-is_head_sound : goal.returns-then-not-is_head_sound
+returns-then-not-is_head_sound c =
+    simp (sym c.is_head_sound.ensures ∙ not_true _ c.if-not-is_head_sound.true) refl
+
+pub returns-else-not-is_head_sound : goal.returns-else-not-is_head_sound
+returns-else-not-is_head_sound c =
+    simp (sym c.is_head_sound.ensures ∙ not_false _ c.if-not-is_head_sound.false) refl

@@ -1,0 +1,17 @@
+-- `agree` meets its contract: by `Agreement`, both passes answer the same and leave the same words. Assumes nothing.
+use mathlib.Core.Path.{ap, ◌∙◌}
+use Prim.Native.Nat.{ℕ}
+use mathlib.Core.List.{List}
+use Rattle.words.proofs.Tests.{and_intro}
+use Rattle.lifecycle.specs.Lifecycle.{scenable_attribute_changed}
+use Rattle.notices_run.specs.Rows.{table_for}
+use Rattle.notices_run.proofs.Agreement.{all_typed, agreement}
+use borrow.Author.Rules.{rules}
+use Rattle.notices_run.proofs.agree.Goals as goal
+
+pub returns : goal.returns
+returns c =
+    let same = agreement c.args.endpoint c.args.state c.args.records c.well_formed.1.0.1.0.1 (all_typed c.args.records c.well_formed.1.0.0 c.well_formed.1.0.1.1)
+    c.on_structs-s.result.outcome c.on_words-w.result.outcome c.on_structs-s.result.records c.on_words-w.result.words c.on_structs-s.ensures
+    (c.on_words-w.ensures ∙ ap (λ (l : List ℕ). scenable_attribute_changed c.args.endpoint (table_for c.args.state l)) c.pack_all.ensures) in
+    and_intro _ _ (c.same_outcome.ensures.1 same.0) (c.same_words.ensures.1 (c.pack_all-2.ensures ∙ same.1))

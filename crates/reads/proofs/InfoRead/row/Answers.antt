@@ -1,0 +1,7 @@
+-- `InfoRead::row` meets its contract. Assumes nothing.
+use borrow.Author.Rules.{rules}
+use Rattle.reads.proofs.InfoRead.row.Goals as goal
+
+pub returns : goal.returns
+returns c =
+    simp c.shown-count.ensures

@@ -1,0 +1,7 @@
+-- `ScenesHandler::unsound` meets its contract. Assumes nothing.
+use borrow.Author.Rules.{rules}
+use Rattle.scenes.proofs.ScenesHandler.unsound.Goals as goal
+
+pub returns : goal.returns
+returns c =
+    c.unsaved.ensures

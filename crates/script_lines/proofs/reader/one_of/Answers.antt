@@ -1,0 +1,24 @@
+-- `script_lines::reader::one_of` meets its contract. Assumes nothing.
+use Prim.Native.Nat.{◌-◌}
+use mathlib.Core.Path.{◌≡◌, refl, sym, ◌∙◌}
+use native.Mathlib.Omega.{arith}
+use lib.ListN.{length, drop}
+use Rattle.script_lines.specs.Lines.{one_of}
+use Rattle.script_lines.proofs.Letters.{of_found, of_next, of_end}
+use Rattle.script_lines.proofs.reader.one_of.Goals as goal
+
+pub loop-i-init : goal.loop-i-init
+loop-i-init c =
+    refl
+
+pub returns-then-letter-letters : goal.returns-then-letter-letters
+returns-then-letter-letters c =
+    sym (of_found _ _ _ c.loop-i-test.taken c.if-letter-letters.true) ∙ c.loop-i.inv
+
+pub loop-i-preserved : goal.loop-i-preserved
+loop-i-preserved c =
+    sym (of_next _ _ _ c.loop-i-test.taken c.if-letter-letters.false) ∙ c.loop-i.inv
+
+pub returns : goal.returns
+returns c =
+    sym (of_end _ _ _ c.loop-i-test.false) ∙ c.loop-i.invariant

@@ -1,0 +1,7 @@
+-- `script_machine::too_long` meets its contract. Assumes nothing.
+use Rattle.std.proofs.Common.{rules}
+use Rattle.script_machine.proofs.too_long.Goals as goal
+
+pub returns : goal.returns
+returns c =
+    rw c.counted.ensures at c.wrong.ensures

@@ -1,0 +1,24 @@
+-- `script_reads::list_in` meets its contract. Assumes nothing.
+use mathlib.Core.Path.{sym}
+use lib.Seq.{length-take-le}
+use Rattle.state.specs.declared.ScenesState.{ScenesState}
+use Rattle.state.specs.Table.{Table, table_of}
+use Rattle.script_answers.specs.Done.{done_of}
+use Rattle.script_answers.proofs.DoneLaws.{in_front_lem}
+use Rattle.script_lines.specs.Values.{value_at}
+use Rattle.script_reads.specs.Reads.{list, list_in}
+use borrow.Author.Rules.{rules}
+use Rattle.script_reads.proofs.list_in.Goals as goal
+
+pub slice_bounds-list-end-2 : goal.slice_bounds-list-end-2
+slice_bounds-list-end-2 c =
+    sym (length-take-le _ _ (search rules))
+
+pub returns : goal.returns
+unfolding list_in
+returns c =
+    let came : ScenesState → Table = λ state. let a = c.args in
+    table_of state a.keys.now a.times.now a.fields.now a.records.now in
+    let a = c.args in
+    in_front_lem (λ b. list a.t7.values b (came a.state)) (value_at a.t7.values 4) a.buffer.now _
+    (done_of c.list.result (came c.list.result.state)) _ c.least-n.ensures c.list.ensures

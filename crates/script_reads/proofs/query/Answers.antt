@@ -1,0 +1,27 @@
+-- `script_reads::query` meets its contract. Assumes nothing.
+use borrow.Author.Tests.{ne_eqb}
+use Rattle.script_answers.specs.Done.{called_of}
+use Rattle.script_reads.specs.Reads.{query}
+use borrow.Author.Rules.{rules}
+use Rattle.script_reads.proofs.query.Goals as goal
+
+pub returns-in-86 : goal.returns-in-86
+unfolding query
+returns-in-86 c =
+    rw c.in-86.is (λ i. called_of (c.view.ensures i) c.args.buffer.now)
+
+pub returns-in-76 : goal.returns-in-76
+unfolding query
+returns-in-76 c =
+    rw c.in-76.is (λ i. called_of (c.recall.ensures i) c.args.buffer.now)
+
+pub returns-in-77 : goal.returns-in-77
+unfolding query
+returns-in-77 c =
+    rw c.in-77.is c.list_in.ensures
+
+pub returns-in_default : goal.returns-in_default
+unfolding query
+returns-in_default c =
+    rw (ne_eqb _ _ c.in-86.rest.0.0.1, ne_eqb _ _ c.in-86.rest.0.1, ne_eqb _ _ c.in-86.rest.1)
+    (λ i. called_of (c.info.ensures i) c.args.buffer.now)

@@ -1,0 +1,10 @@
+-- `slot_writes::put_copy` meets its contract. Assumes nothing.
+use mathlib.Core.Path.{ap}
+use Rattle.slots.specs.Slots.{put_slot, slots_of}
+use borrow.Author.Rules.{rules}
+use Rattle.slot_writes.proofs.put_copy.Goals as goal
+
+pub returns : goal.returns
+unfolding put_slot
+returns c =
+    ap (slots_of _ _) c.put_bytes_of.ensures

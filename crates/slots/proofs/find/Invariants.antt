@@ -1,0 +1,15 @@
+-- `slots::find` meets its contract: no position below i holds the key word. Assumes nothing.
+use Prim.Native.Nat.{◌+◌, ◌≤◌, ◌-◌}
+use mathlib.Core.Path.{◌≡◌, sym, ◌∙◌}
+use native.Mathlib.Omega.{arith}
+use Rattle.words.proofs.Below.{first_none, first_stays}
+use Rattle.words.specs.declared.Found.TheVariants.{Nothing}
+use Rattle.slots.specs.Slots.{first_key}
+use borrow.Author.Rules.{rules}
+use Rattle.slots.proofs.find.Given as goal
+
+abbrev pub invariant-loop-i : goal.invariant-loop-i
+invariant-loop-i l = (l.i ≤ l.n) × (first_key l.keys l.i l.key ≡ Nothing)
+
+abbrev pub decreases-loop-i : goal.decreases-loop-i
+decreases-loop-i l = l.n - l.i

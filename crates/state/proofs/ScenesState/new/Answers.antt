@@ -1,0 +1,7 @@
+-- `ScenesState::new` meets its contract. Assumes nothing.
+use Rattle.std.proofs.Common.{rules}
+use Rattle.state.proofs.ScenesState.new.Goals as goal
+
+pub returns : goal.returns
+returns c =
+    c.with_modes.ensures

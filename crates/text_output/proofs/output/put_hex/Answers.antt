@@ -1,0 +1,26 @@
+-- `text_output::output::put_hex` meets its contract. Assumes nothing.
+use Prim.Native.Nat.{◌-◌}
+use mathlib.Core.Path.{◌≡◌, refl, sym, ap, ◌∙◌}
+use native.Mathlib.Omega.{arith}
+use lib.ListN.{length, drop}
+use Rattle.text_output.specs.Writing.{sheet, puts, hex_text}
+use Rattle.text_output.proofs.Writing.{hex_next, hex_end}
+use Rattle.text_output.proofs.output.put_hex.Goals as goal
+
+pub loop-i-init : goal.loop-i-init
+loop-i-init c =
+    (refl, refl)
+
+pub loop-i-preserved : goal.loop-i-preserved
+loop-i-preserved c = (
+  c.put_hex_byte-next.auto.out ∙ c.loop-i.invariant.0,
+  c.loop-i.invariant.1 ∙ hex_next _ _ _ c.loop-i-test.true ∙ ap (puts _) (sym c.put_hex_byte-next.ensures),
+)
+
+pub shape_of-out : goal.shape_of-out
+shape_of-out c =
+    c.loop-i.invariant.0
+
+pub returns : goal.returns
+returns c =
+    sym (c.loop-i.invariant.1 ∙ hex_end _ _ _ c.loop-i-test.false)

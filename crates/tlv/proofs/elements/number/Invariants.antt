@@ -1,0 +1,13 @@
+-- `tlv::elements::number` meets its contract. Assumes nothing.
+use Prim.Native.Nat.{◌+◌, ◌-◌, ◌^◌, ◌≤◌, ◌<◌}
+use mathlib.Core.Path.{◌≡◌, sym, ◌∙◌}
+use native.Mathlib.Omega.{arith}
+use Rattle.tlv.specs.Elements.{little}
+use Rattle.tlv.proofs.Numbers.{little_one, little_none, little_down, little_all, little_under}
+use Rattle.tlv.proofs.elements.number.Given as goal
+
+abbrev pub invariant-loop-i : goal.invariant-loop-i
+invariant-loop-i l = (l.i ≤ l.size) × (l.value ≡ little (l.size - l.i) l.bytes (l.at + l.i))
+
+abbrev pub decreases-loop-i : goal.decreases-loop-i
+decreases-loop-i l = l.i
