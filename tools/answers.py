@@ -282,8 +282,8 @@ class Turn:
                 p = by_name.get(o)
                 if p:
                     need = re.match(r"tie\.Need-(\S+)", p["type"])[1]
-                    key = alike(re.sub(r"^overflow-", "", need))
-                    hit = table.get(key) or table.get(alike(need))
+                    word = alike(re.sub(r"^overflow-", "", need))
+                    hit = table.get(word) or table.get(alike(need))
                     if hit:
                         matched.append((o, *hit))
                     else:

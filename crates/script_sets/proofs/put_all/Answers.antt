@@ -6,7 +6,7 @@ use borrow.Author.Rules.{rules}
 use Rattle.text_output.specs.Writing.{sheet, puts}
 use Rattle.field_sets.specs.Reader.{sets_in}
 use Rattle.script_sets.proofs.Showing.{text_none, text_some}
-use Rattle.script_sets.proofs.returns2.Goals as goal
+use Rattle.script_sets.proofs.put_all.Goals as goal
 
 pub returns-then-has_none : goal.returns-then-has_none
 returns-then-has_none c =

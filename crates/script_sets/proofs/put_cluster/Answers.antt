@@ -3,7 +3,7 @@ use mathlib.Core.Path.{sym, ◌∙◌}
 use borrow.Author.Rules.{rules}
 use borrow.Author.Tests.{eq-eqb, ne_eqb}
 use Rattle.text_output.proofs.Writing.{then, puts_one}
-use Rattle.script_sets.proofs.returns2.Goals as goal
+use Rattle.script_sets.proofs.put_cluster.Goals as goal
 
 pub returns-then-pairs-eq0 : goal.returns-then-pairs-eq0
 returns-then-pairs-eq0 c =

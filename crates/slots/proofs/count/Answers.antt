@@ -7,6 +7,7 @@ use borrow.Author.Rules.{rules}
 use Rattle.words.proofs.Below.{count_none, count_hit, count_miss}
 use Rattle.slots.specs.Slots.{count_keys}
 use Rattle.slots.proofs.count.Goals as goal
+use Rattle.slots.proofs.count.Goals.{then-holds, else-holds}
 
 pub loop-i-init : goal.loop-i-init
 unfolding count_keys
@@ -16,10 +17,11 @@ loop-i-init c =
 pub loop-i-preserved : goal.loop-i-preserved
 unfolding count_keys
 loop-i-preserved c =
-    ⊎_elim
-    (λ w. (omega arith, omega arith, w.1 ∙ ap (λ (m : ℕ). m + 1) c.loop-i.invariant.2 ∙ sym (count_hit _ _ (sym c.holds.ensures ∙ w.0.taken))))
-    (λ w. (omega arith, omega arith, w.1 ∙ c.loop-i.invariant.2 ∙ sym (count_miss _ _ (sym c.holds.ensures ∙ w.0.left))))
-    c.if-holds.branch
+    let inv = c.loop-i.invariant in
+    elim c.if-holds.branch [
+      then-holds w ↦ (omega arith, omega arith, w.count-is ∙ ap (λ (m : ℕ). m + 1) inv.2 ∙ sym (count_hit _ _ (sym c.holds.ensures ∙ w.if-holds.true)))
+    | else-holds w ↦ (omega arith, omega arith, w.count-is ∙ inv.2 ∙ sym (count_miss _ _ (sym c.holds.ensures ∙ w.if-holds.false)))
+    ]
 
 pub returns : goal.returns
 returns c =

@@ -22,8 +22,8 @@ passed keys i j key next none e = rw next (first_more _ i none (ne_eqb _ _ e))
 
 -- ---- none up to each of the positions
 
-abbrev none : tie.Start → ℕ → Type 0
-none c k = let a = c.args in first_key a.keys.now (a.at + k) a.key ≡ Nothing
+abbrev none : List ℕ → ℕ → ℕ → ℕ → Type 0
+none keys at key k = first_key keys (at + k) key ≡ Nothing
 
 pub returns-then-keys-at : goal.returns-then-keys-at
 returns-then-keys-at c =
@@ -31,26 +31,26 @@ returns-then-keys-at c =
 
 pub returns-then-keys-at-2 : goal.returns-then-keys-at-2
 returns-then-keys-at-2 c =
-    let none_1 : none c 1 = passed _ _ _ _ (omega arith) c.requires.key_value c.if-keys-at.false in
+    let none_1 : none c.args.keys.now c.args.at c.args.key 1 = passed _ _ _ _ (omega arith) c.requires.key_value c.if-keys-at.false in
     here _ _ _ _ (omega arith) none_1 c.if-keys-at-2.true
 
 pub returns-then-keys-at-3 : goal.returns-then-keys-at-3
 returns-then-keys-at-3 c =
-    let none_1 : none c 1 = passed _ _ _ _ (omega arith) c.requires.key_value c.if-keys-at.false in
-    let none_2 : none c 2 = passed _ _ _ _ (omega arith) none_1 c.if-keys-at-2.false in
+    let none_1 : none c.args.keys.now c.args.at c.args.key 1 = passed _ _ _ _ (omega arith) c.requires.key_value c.if-keys-at.false in
+    let none_2 : none c.args.keys.now c.args.at c.args.key 2 = passed _ _ _ _ (omega arith) none_1 c.if-keys-at-2.false in
     here _ _ _ _ (omega arith) none_2 c.if-keys-at-3.true
 
 pub returns-then-keys-at-4 : goal.returns-then-keys-at-4
 returns-then-keys-at-4 c =
-    let none_1 : none c 1 = passed _ _ _ _ (omega arith) c.requires.key_value c.if-keys-at.false in
-    let none_2 : none c 2 = passed _ _ _ _ (omega arith) none_1 c.if-keys-at-2.false in
-    let none-3 : none c 3 = passed _ _ _ _ (omega arith) none_2 c.if-keys-at-3.false in
+    let none_1 : none c.args.keys.now c.args.at c.args.key 1 = passed _ _ _ _ (omega arith) c.requires.key_value c.if-keys-at.false in
+    let none_2 : none c.args.keys.now c.args.at c.args.key 2 = passed _ _ _ _ (omega arith) none_1 c.if-keys-at-2.false in
+    let none-3 : none c.args.keys.now c.args.at c.args.key 3 = passed _ _ _ _ (omega arith) none_2 c.if-keys-at-3.false in
     here _ _ _ _ (omega arith) none-3 c.if-keys-at-4.true
 
 pub returns : goal.returns
 returns c =
-    let none_1 : none c 1 = passed _ _ _ _ (omega arith) c.requires.key_value c.if-keys-at.false in
-    let none_2 : none c 2 = passed _ _ _ _ (omega arith) none_1 c.if-keys-at-2.false in
-    let none-3 : none c 3 = passed _ _ _ _ (omega arith) none_2 c.if-keys-at-3.false in
-    let none-4 : none c 4 = passed _ _ _ _ (omega arith) none-3 c.if-keys-at-4.false in
+    let none_1 : none c.args.keys.now c.args.at c.args.key 1 = passed _ _ _ _ (omega arith) c.requires.key_value c.if-keys-at.false in
+    let none_2 : none c.args.keys.now c.args.at c.args.key 2 = passed _ _ _ _ (omega arith) none_1 c.if-keys-at-2.false in
+    let none-3 : none c.args.keys.now c.args.at c.args.key 3 = passed _ _ _ _ (omega arith) none_2 c.if-keys-at-3.false in
+    let none-4 : none c.args.keys.now c.args.at c.args.key 4 = passed _ _ _ _ (omega arith) none-3 c.if-keys-at-4.false in
     sym none-4

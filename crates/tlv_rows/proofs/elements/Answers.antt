@@ -5,7 +5,7 @@ use native.Mathlib.Omega.{arith}
 use lib.ListN.{length}
 use borrow.Author.Rules.{rules}
 use Rattle.tlv.proofs.Heads.{element_on}
-use Rattle.tlv_rows.proofs.loopsmaller.Goals as goal
+use Rattle.tlv_rows.proofs.elements.Goals as goal
 
 pub loop-i-smaller : goal.loop-i-smaller
 loop-i-smaller c =

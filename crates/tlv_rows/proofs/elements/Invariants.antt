@@ -5,7 +5,7 @@ use native.Mathlib.Omega.{arith}
 use lib.ListN.{length}
 use borrow.Author.Rules.{rules}
 use Rattle.tlv.proofs.Heads.{element_on}
-use Rattle.tlv_rows.proofs.loopsmaller.Given as goal
+use Rattle.tlv_rows.proofs.elements.Given as goal
 
 abbrev pub invariant-loop-i : goal.invariant-loop-i
 invariant-loop-i l = Unit {0}

@@ -18,7 +18,7 @@ returns-then-not-is_sound c =
     table_of a.self.state a.keys.now a.times.now a.fields.now a.records.now in
     let held : Groups = let a = c.args in
     groups_of a.self.groups a.words.now in
-    both_unsound held came (sym c.is_sound.ensures ∙ not_true _ c.if-not-is_sound.true) _ _ c.refused.ensures
+    both_unsound held came (sym c.is_sound.ensures ∙ c.if-not-is_sound.true) _ _ c.refused.ensures
 
 pub returns-then-done-eq-SUCCESS : goal.returns-then-done-eq-SUCCESS
 unfolding factory_reset_both
@@ -27,7 +27,7 @@ returns-then-done-eq-SUCCESS c =
     table_of a.self.state a.keys.now a.times.now a.fields.now a.records.now in
     let held : Groups = let a = c.args in
     groups_of a.self.groups a.words.now in
-    let sound-held : groups_sound held ≡ true = sym c.is_sound.ensures ∙ not_false _ c.if-not-is_sound.false in
+    let sound-held : groups_sound held ≡ true = sym c.is_sound.ensures ∙ c.if-not-is_sound.false in
     let g = held in
     let t = came in
     ap (both_here g t) c.ended.ensures
@@ -41,7 +41,7 @@ returns c =
     table_of a.self.state a.keys.now a.times.now a.fields.now a.records.now in
     let held : Groups = let a = c.args in
     groups_of a.self.groups a.words.now in
-    let sound-held : groups_sound held ≡ true = sym c.is_sound.ensures ∙ not_false _ c.if-not-is_sound.false in
+    let sound-held : groups_sound held ≡ true = sym c.is_sound.ensures ∙ c.if-not-is_sound.false in
     let g = held in
     let t = came in
     ap (both_here g t) c.ended-2.ensures

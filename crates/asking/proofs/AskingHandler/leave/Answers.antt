@@ -19,7 +19,7 @@ returns-then-not-is_sound c =
     table_of a.self.state a.keys.now a.times.now a.fields.now a.records.now in
     let held : Groups = let a = c.args in
     groups_of a.self.groups a.words.now in
-    both_unsound held came (sym c.is_sound.ensures ∙ not_true _ c.if-not-is_sound.true) _ _ c.refused.ensures
+    both_unsound held came (sym c.is_sound.ensures ∙ c.if-not-is_sound.true) _ _ c.refused.ensures
 
 pub returns-then-not-is_sound-2 : goal.returns-then-not-is_sound-2
 returns-then-not-is_sound-2 c =
@@ -27,15 +27,15 @@ returns-then-not-is_sound-2 c =
     table_of a.self.state a.keys.now a.times.now a.fields.now a.records.now in
     let held : Groups = let a = c.args in
     groups_of a.self.groups a.words.now in
-    let sound-held : groups_sound held ≡ true = sym c.is_sound.ensures ∙ not_false _ c.if-not-is_sound.false in
-    let unsound = sym c.is_sound-2.ensures ∙ not_true _ c.if-not-is_sound-2.true in
+    let sound-held : groups_sound held ≡ true = sym c.is_sound.ensures ∙ c.if-not-is_sound.false in
+    let unsound = sym c.is_sound-2.ensures ∙ c.if-not-is_sound-2.true in
     leaves-unsound held came sound-held c.args.key unsound _ c.refused-then-not-is_sound-2.ensures
 
 pub leave_gate-gate-requires : goal.leave_gate-gate-requires
 leave_gate-gate-requires c =
     let held : Groups = let a = c.args in
     groups_of a.self.groups a.words.now in
-    let sound-held : groups_sound held ≡ true = sym c.is_sound.ensures ∙ not_false _ c.if-not-is_sound.false in
+    let sound-held : groups_sound held ≡ true = sym c.is_sound.ensures ∙ c.if-not-is_sound.false in
     groups_fit _ sound-held
 
 pub returns-then-gate-ne-SUCCESS : goal.returns-then-gate-ne-SUCCESS
@@ -44,8 +44,8 @@ returns-then-gate-ne-SUCCESS c =
     table_of a.self.state a.keys.now a.times.now a.fields.now a.records.now in
     let held : Groups = let a = c.args in
     groups_of a.self.groups a.words.now in
-    let sound-held : groups_sound held ≡ true = sym c.is_sound.ensures ∙ not_false _ c.if-not-is_sound.false in
-    let sound-came : sound came ≡ true = sym c.is_sound-2.ensures ∙ not_false _ c.if-not-is_sound-2.false in
+    let sound-held : groups_sound held ≡ true = sym c.is_sound.ensures ∙ c.if-not-is_sound.false in
+    let sound-came : sound came ≡ true = sym c.is_sound-2.ensures ∙ c.if-not-is_sound-2.false in
     leaves-refused held came sound-held c.args.key sound-came _ c.leave_gate-gate.ensures c.if-gate-ne-SUCCESS.true _
     c.refused-then-gate-ne-SUCCESS.ensures
 
@@ -53,14 +53,14 @@ pub remove_all_scenes-done-requires : goal.remove_all_scenes-done-requires
 remove_all_scenes-done-requires c =
     let came : Table = let a = c.args in
     table_of a.self.state a.keys.now a.times.now a.fields.now a.records.now in
-    let sound-came : sound came ≡ true = sym c.is_sound-2.ensures ∙ not_false _ c.if-not-is_sound-2.false in
+    let sound-came : sound came ≡ true = sym c.is_sound-2.ensures ∙ c.if-not-is_sound-2.false in
     sound-came
 
 pub retain-requires : goal.retain-requires
 retain-requires c =
     let held : Groups = let a = c.args in
     groups_of a.self.groups a.words.now in
-    let sound-held : groups_sound held ≡ true = sym c.is_sound.ensures ∙ not_false _ c.if-not-is_sound.false in
+    let sound-held : groups_sound held ≡ true = sym c.is_sound.ensures ∙ c.if-not-is_sound.false in
     groups_fit _ sound-held
 
 pub returns : goal.returns
@@ -69,8 +69,8 @@ returns c =
     table_of a.self.state a.keys.now a.times.now a.fields.now a.records.now in
     let held : Groups = let a = c.args in
     groups_of a.self.groups a.words.now in
-    let sound-held : groups_sound held ≡ true = sym c.is_sound.ensures ∙ not_false _ c.if-not-is_sound.false in
-    let sound-came : sound came ≡ true = sym c.is_sound-2.ensures ∙ not_false _ c.if-not-is_sound-2.false in
+    let sound-held : groups_sound held ≡ true = sym c.is_sound.ensures ∙ c.if-not-is_sound.false in
+    let sound-came : sound came ≡ true = sym c.is_sound-2.ensures ∙ c.if-not-is_sound-2.false in
     ap (both_in _ _ _) c.ended.ensures
     ∙ leaves held came sound-held c.args.key sound-came _ c.leave_gate-gate.ensures c.if-gate-ne-SUCCESS.false _ _
     c.remove_all_scenes-done.ensures

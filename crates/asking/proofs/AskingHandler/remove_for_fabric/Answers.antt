@@ -19,13 +19,13 @@ returns-then-not-is_sound c =
     table_of a.self.state a.keys.now a.times.now a.fields.now a.records.now in
     let held : Groups = let a = c.args in
     groups_of a.self.groups a.words.now in
-    both_unsound held came (sym c.is_sound.ensures ∙ not_true _ c.if-not-is_sound.true) _ _ c.refused.ensures
+    both_unsound held came (sym c.is_sound.ensures ∙ c.if-not-is_sound.true) _ _ c.refused.ensures
 
 pub retain-requires : goal.retain-requires
 retain-requires c =
     let held : Groups = let a = c.args in
     groups_of a.self.groups a.words.now in
-    let sound-held : groups_sound held ≡ true = sym c.is_sound.ensures ∙ not_false _ c.if-not-is_sound.false in
+    let sound-held : groups_sound held ≡ true = sym c.is_sound.ensures ∙ c.if-not-is_sound.false in
     groups_fit _ sound-held
 
 pub returns-then-done-eq-SUCCESS : goal.returns-then-done-eq-SUCCESS
@@ -35,7 +35,7 @@ returns-then-done-eq-SUCCESS c =
     table_of a.self.state a.keys.now a.times.now a.fields.now a.records.now in
     let held : Groups = let a = c.args in
     groups_of a.self.groups a.words.now in
-    let sound-held : groups_sound held ≡ true = sym c.is_sound.ensures ∙ not_false _ c.if-not-is_sound.false in
+    let sound-held : groups_sound held ≡ true = sym c.is_sound.ensures ∙ c.if-not-is_sound.false in
     let g = held in
     ap (both_in _ _ _) c.ended.ensures
     ∙ follows g came sound-held (retain_groups (fabric_keys c.args.fabric) g) _ _
@@ -51,7 +51,7 @@ returns c =
     table_of a.self.state a.keys.now a.times.now a.fields.now a.records.now in
     let held : Groups = let a = c.args in
     groups_of a.self.groups a.words.now in
-    let sound-held : groups_sound held ≡ true = sym c.is_sound.ensures ∙ not_false _ c.if-not-is_sound.false in
+    let sound-held : groups_sound held ≡ true = sym c.is_sound.ensures ∙ c.if-not-is_sound.false in
     let g = held in
     ap (both_in _ _ _) c.ended-2.ensures
     ∙ follows_not g came sound-held (retain_groups (fabric_keys c.args.fabric) g) _ _

@@ -7,17 +7,17 @@ use Rattle.groups.proofs.GroupsState.read.Goals as goal
 
 pub returns-then-not-is_sound : goal.returns-then-not-is_sound
 returns-then-not-is_sound c =
-    read-unsound _ _ (sym c.is_sound.ensures ∙ not_true _ c.if-not-is_sound.true)
+    read-unsound _ _ (sym c.is_sound.ensures ∙ c.if-not-is_sound.true)
 
 pub returns-then-gate-ne-SUCCESS : goal.returns-then-gate-ne-SUCCESS
 returns-then-gate-ne-SUCCESS c =
-    read-refused _ _ (sym c.is_sound.ensures ∙ not_false _ c.if-not-is_sound.false) _ c.fabric_gate-gate.ensures c.if-gate-ne-SUCCESS.true
+    read-refused _ _ (sym c.is_sound.ensures ∙ c.if-not-is_sound.false) _ c.fabric_gate-gate.ensures c.if-gate-ne-SUCCESS.true
 
 pub is_member-requires : goal.is_member-requires
 is_member-requires c =
-    groups_fit _ (sym c.is_sound.ensures ∙ not_false _ c.if-not-is_sound.false)
+    groups_fit _ (sym c.is_sound.ensures ∙ c.if-not-is_sound.false)
 
 pub returns : goal.returns
 returns c =
-    let sound = sym c.is_sound.ensures ∙ not_false _ c.if-not-is_sound.false in
+    let sound = sym c.is_sound.ensures ∙ c.if-not-is_sound.false in
     read_told _ _ sound (sym c.fabric_gate-gate.ensures ∙ c.if-gate-ne-SUCCESS.false) _ c.is_member.ensures

@@ -1,5 +1,6 @@
 -- `requests::Membership::of_number` meets its contract. Assumes nothing.
 use mathlib.Core.Path.{refl}
+use borrow.Author.Rules.{rules}
 use borrow.Author.Tests.{ne_eqb}
 use Rattle.requests.specs.Requests.{membership_of}
 use Rattle.requests.proofs.Membership.of_number.Goals as goal
@@ -17,4 +18,4 @@ returns-in-1 c =
 pub returns-in_default : goal.returns-in_default
 unfolding membership_of
 returns-in_default c =
-    rw (ne_eqb _ _ c.in-0.rest.1, ne_eqb _ _ c.in-0.rest.0.1) refl
+    search rules

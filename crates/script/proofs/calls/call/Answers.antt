@@ -6,7 +6,7 @@ use Rattle.script_lines.specs.Lines.{one_of}
 use Rattle.script_answers.specs.Done.{Done, Called, called_of}
 use Rattle.script.specs.Calls.{call}
 use borrow.Author.Rules.{rules}
-use Rattle.script.proofs.returns5.Goals as goal
+use Rattle.script.proofs.calls.call.Goals as goal
 
 pub returns-then-one_of : goal.returns-then-one_of
 unfolding call

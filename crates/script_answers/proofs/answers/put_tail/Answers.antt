@@ -2,7 +2,7 @@
 use mathlib.Core.Path.{subst}
 use Rattle.script_answers.specs.Answers.{fits}
 use borrow.Author.Rules.{rules}
-use Rattle.script_answers.proofs.returns7.Goals as goal
+use Rattle.script_answers.proofs.answers.put_tail.Goals as goal
 
 pub put_scene-requires : goal.put_scene-requires
 put_scene-requires c =

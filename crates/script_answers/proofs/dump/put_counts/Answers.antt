@@ -2,7 +2,7 @@
 use mathlib.Core.Path.{ap, ◌∙◌}
 use Rattle.text_output.specs.Writing.{puts, writes}
 use borrow.Author.Rules.{rules}
-use Rattle.script_answers.proofs.returns.Goals as goal
+use Rattle.script_answers.proofs.dump.put_counts.Goals as goal
 
 pub returns : goal.returns
 unfolding writes

@@ -2,7 +2,7 @@
 use mathlib.Core.Path.{sym, ◌∙◌}
 use Rattle.script_groups.specs.Calls.{needs_groups}
 use borrow.Author.Rules.{rules}
-use Rattle.script_groups.proofs.returns2.Goals as goal
+use Rattle.script_groups.proofs.calls.needs_groups.Goals as goal
 
 pub returns-then-one_of : goal.returns-then-one_of
 unfolding needs_groups

@@ -2,7 +2,7 @@
 use mathlib.Core.Path.{sym, ◌∙◌}
 use Rattle.script_lines.specs.Lines.{known}
 use borrow.Author.Rules.{rules}
-use Rattle.script_lines.proofs.returns3.Goals as goal
+use Rattle.script_lines.proofs.reader.is_known.Goals as goal
 
 pub returns-then-one_of : goal.returns-then-one_of
 unfolding known

@@ -2,7 +2,7 @@
 use mathlib.Core.Path.{sym, ◌∙◌}
 use Rattle.script_lines.specs.Lines.{member_word}
 use borrow.Author.Rules.{rules}
-use Rattle.script_lines.proofs.returns3.Goals as goal
+use Rattle.script_lines.proofs.reader.membership.Goals as goal
 
 pub returns-then-same : goal.returns-then-same
 unfolding member_word

@@ -3,7 +3,7 @@ use mathlib.Core.Path.{sym, ◌∙◌}
 use borrow.Author.Tests.{eq-eqb, ne_eqb}
 use Rattle.script_lines.specs.Values.{asking}
 use borrow.Author.Rules.{rules}
-use Rattle.script_lines.proofs.returns5.Goals as goal
+use Rattle.script_lines.proofs.values.asks.Goals as goal
 
 pub returns-then-one_of : goal.returns-then-one_of
 unfolding asking

@@ -3,7 +3,7 @@ use mathlib.Core.Path.{sym, ◌∙◌}
 use borrow.Author.Tests.{eq-eqb, ne_eqb}
 use borrow.Author.Rules.{rules}
 use Rattle.text_input.specs.Reading.{or_dash}
-use Rattle.text_input.proofs.returns4.Goals as goal
+use Rattle.text_input.proofs.input.hex.Goals as goal
 
 pub returns-then-word-eq0 : goal.returns-then-word-eq0
 unfolding or_dash

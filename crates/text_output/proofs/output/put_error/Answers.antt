@@ -2,7 +2,7 @@
 use mathlib.Core.Path.{ap, ◌∙◌}
 use Rattle.text_output.specs.Writing.{puts, writes}
 use borrow.Author.Rules.{rules}
-use Rattle.text_output.proofs.returns.Goals as goal
+use Rattle.text_output.proofs.output.put_error.Goals as goal
 
 pub returns : goal.returns
 unfolding writes

@@ -16,7 +16,7 @@ returns-then-bytes-at c =
 
 pub returns-then-not-is_known : goal.returns-then-not-is_known
 returns-then-not-is_known c =
-    sym (element_unknown _ _ (omega arith) (sym c.is_known.ensures ∙ not_true _ c.if-not-is_known.true))
+    sym (element_unknown _ _ (omega arith) (sym c.is_known.ensures ∙ c.if-not-is_known.true))
 
 pub tag_size-tag_bytes-requires : goal.tag_size-tag_bytes-requires
 tag_size-tag_bytes-requires c =
@@ -30,19 +30,19 @@ overflow_add-tag_bytes c =
 pub returns-then-bytes-at-2 : goal.returns-then-bytes-at-2
 unfolding length_from value_from value_end
 returns-then-bytes-at-2 c =
-    let is_known : known (control_at c.args.bytes.now c.args.at) ≡ true = sym c.is_known.ensures ∙ not_false _ c.if-not-is_known.false in
+    let is_known : known (control_at c.args.bytes.now c.args.at) ≡ true = sym c.is_known.ensures ∙ c.if-not-is_known.false in
     sym (element_short _ _ (omega arith) is_known (omega arith))
 
 pub returns-then-bytes-value : goal.returns-then-bytes-value
 unfolding length_from value_from value_end
 returns-then-bytes-value c =
-    let is_known : known (control_at c.args.bytes.now c.args.at) ≡ true = sym c.is_known.ensures ∙ not_false _ c.if-not-is_known.false in
+    let is_known : known (control_at c.args.bytes.now c.args.at) ≡ true = sym c.is_known.ensures ∙ c.if-not-is_known.false in
     sym
     (element_short _ _ (omega arith) is_known (omega (arith, rw c.tag_size-tag_bytes.ensures at c.value_size-size.ensures)))
 
 pub returns : goal.returns
 returns c =
-    let is_known : known (control_at c.args.bytes.now c.args.at) ≡ true = sym c.is_known.ensures ∙ not_false _ c.if-not-is_known.false in
+    let is_known : known (control_at c.args.bytes.now c.args.at) ≡ true = sym c.is_known.ensures ∙ c.if-not-is_known.false in
     element_made _ _ (omega arith) is_known _ _ _ _
     c.context_tag-tag.ensures c.tag_size-tag_bytes.ensures c.length_size-length_bytes.ensures c.value_size-size.ensures
     (omega arith)

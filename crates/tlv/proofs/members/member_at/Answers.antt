@@ -24,7 +24,7 @@ pub returns-then-not-is_container : goal.returns-then-not-is_container
 returns-then-not-is_container c =
     let read : element_at c.args.bytes.now c.args.at ≡ Whole c.in-Whole.h = sym c.element_at.ensures ∙ c.in-Whole.is in
     sym
-    (member-plain _ _ c.if-bytes-at.false _ read c.if-h-eq-END_CNT.false (sym c.is_container.ensures ∙ not_true _ c.if-not-is_container.true))
+    (member-plain _ _ c.if-bytes-at.false _ read c.if-h-eq-END_CNT.false (sym c.is_container.ensures ∙ c.if-not-is_container.true))
 
 pub returns-in_default-container_next : goal.returns-in_default-container_next
 returns-in_default-container_next c =
