@@ -7,7 +7,7 @@ use mathlib.Core.Bool.{Bool, true, false, not, ◌||◌}
 use mathlib.Core.List.{List, [], ◌∷◌}
 use lib.ListN.{length, length-map}
 use lib.Dec.{leb, ltb, eqb}
-use borrow.Author.Tests.{ltb-true, ltb-false, leb-true, eqb-true, lt-ltb, le-leb, le-ltb, not_false}
+use borrow.Author.Tests.{ltb-true, ltb-false, leb-true, eqb-true, lt-ltb, le-leb, le-ltb, not-false}
 use Rattle.words.specs.Constants.{max_scenes, max_fields}
 use Rattle.requests.specs.Requests.{reserved}
 use Rattle.words.specs.Words.{word_of, fabric_of, scene_of, key_of_record, valid_record}
@@ -50,7 +50,7 @@ pub record FineRecord (w : ℕ) : Type 0 where
 pub fine_key : (k : ℕ) → bad_key k ≡ false → FineKey k
 fine_key k e =
     let a = or_none (reserved (scene_of k)) (not (key_sound k)) e in
-    let b = not_false (key_sound k) a.1 in
+    let b = not-false (key_sound k) a.1 in
     record {
       scene = a.0;
       small = ltb-true k (2 ^ 48) (and_left (ltb k (2 ^ 48)) (leb 1 (fabric_of k)) b);
@@ -63,7 +63,7 @@ key_fine k h = ap₂ (λ (a b : Bool). a || not b) h.scene (and_intro _ _ (lt-lt
 pub fine_record : (w : ℕ) → bad_record w ≡ false → FineRecord w
 fine_record w e =
     let a = or_none (reserved (scene_of (key_of_record w))) (not (record_sound w)) e in
-    let b = not_false (record_sound w) a.1 in
+    let b = not-false (record_sound w) a.1 in
     record {
       scene = a.0;
       small = ltb-true w (2 ^ 49) (and_left (ltb w (2 ^ 49)) (leb 1 (fabric_of (key_of_record w))) b);

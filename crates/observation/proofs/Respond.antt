@@ -9,7 +9,7 @@ use mathlib.Core.List.{List, [], ◌∷◌, ◌++◌}
 use mathlib.Core.Option.{Option, none, some, map, none-ne-some, some-ne-none, some-injective}
 use lib.ListN.{length, length-append}
 use lib.Dec.{ltb, eqb}
-use borrow.Author.Tests.{eq-eqb, not_false}
+use borrow.Author.Tests.{eq-eqb, not-false}
 use Rattle.words.specs.Constants.{success, insufficient_space, not_found, buffer_too_short, max_fields, max_shown, max_remaining, end_of_container}
 use Rattle.words.specs.Words.{word_of, fabric_of, scene_of, endpoint_keys, group_keys}
 use Rattle.words.proofs.Tests.{and_left}
@@ -151,7 +151,7 @@ module _ (f e : ℕ) (hf : f < 2 ^ 8) (he : e < 2 ^ 16) where
       record {
         alike = λ v w i j a.
             cond_two (Kept f (remove_all g m)) (has q v.entries) (has q w.entries) (has_same q v.entries w.entries (a.scenes q (group-within f e g he hg)))
-            (λ _ _. kept refl (sim_invalidated f (Group key) _ _ (group-seen key) (sim_keep f v w a r (λ x z. group-within f e g he hg x (not_false (q x) z)) i j)))
+            (λ _ _. kept refl (sim_invalidated f (Group key) _ _ (group-seen key) (sim_keep f v w a r (λ x z. group-within f e g he hg x (not-false (q x) z)) i j)))
             (λ _ _. kept refl a);
         leaves = λ v i.
             cond_elim (λ (o : Seen). Inv o.1) (has q v.entries)

@@ -7,7 +7,7 @@ use mathlib.Core.Bool.{Bool, true, false, cond, not, ◌&&◌, ◌||◌, false�
 use mathlib.Core.List.{List, [], ◌∷◌, ◌++◌, map}
 use lib.Dec.{eqb, ltb}
 use lib.ListN.{length}
-use borrow.Author.Tests.{ltb-true, ltb-false, eqb-true, eqb-false, not_true}
+use borrow.Author.Tests.{ltb-true, ltb-false, eqb-true, eqb-false, not-true}
 use Rattle.words.specs.Constants.{success, insufficient_space, max_fields, end_of_container}
 use Rattle.words.specs.Words.{word_of, fabric_of, group_keys}
 use Rattle.words.specs.Below.{positions}
@@ -329,6 +329,6 @@ only_when_full f e c t h sd want below =
     let u = next (command f e c) t in
     let space = eqb (answer (command f e c) t).status insufficient_space in
     let z = eqb-true (answer (command f e c) t).status insufficient_space (and_left space (not (long_fields c)) want) in
-    let n = not_true (long_fields c) (and_right space (not (long_fields c)) want) in
+    let n = not-true (long_fields c) (and_right space (not (long_fields c)) want) in
     let most = full f e t sd h.0 h.1 c h.2 n z below in
     omega (arith, most, entries-length u, (sound_bounds u (step-sound (command f e c) t h sd)).entries)

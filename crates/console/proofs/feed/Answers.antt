@@ -15,16 +15,16 @@ loop-from-init c =
 
 pub step-done-requires : goal.step-done-requires
 step-done-requires c = (
-  omega (arith, c.loop-from.inv.0, c.requires.keys_len_bound),
+  omega (arith, c.loop-from.invariant.0, c.requires.keys_len_bound),
   (
-    omega (arith, c.loop-from.inv.3, c.requires.records_len_bound),
+    omega (arith, c.loop-from.invariant.3, c.requires.records_len_bound),
     (
-      omega (arith, c.loop-from.inv.4, c.requires.words_len_bound),
+      omega (arith, c.loop-from.invariant.4, c.requires.words_len_bound),
       (
-        omega (arith, c.loop-from.inv.5, c.requires.buffer_len_bound),
+        omega (arith, c.loop-from.invariant.5, c.requires.buffer_len_bound),
         (
-          omega (arith, c.gather-got.auto.1.1.0, c.loop-from.inv.6, c.requires.line_len_bound),
-          (c.loop-from.inv.8, omega (arith, c.loop-from.inv.7, c.requires.longest_in_bounds)),
+          omega (arith, c.gather-got.auto.1.1.0, c.loop-from.invariant.6, c.requires.line_len_bound),
+          (c.loop-from.invariant.8, omega (arith, c.loop-from.invariant.7, c.requires.longest_in_bounds)),
         ),
       ),
     ),
@@ -40,14 +40,14 @@ loop-from-smaller-then-got c =
 
 pub loop-from-preserved-then-got : goal.loop-from-preserved-then-got
 loop-from-preserved-then-got c = (
-  c.step-done.kept.1.0 ∙ c.loop-from.inv.0,
-  c.step-done.kept.1.1.0 ∙ c.loop-from.inv.1,
-  c.step-done.kept.1.1.1.0 ∙ c.loop-from.inv.2,
-  c.step-done.kept.1.1.1.1.0 ∙ c.loop-from.inv.3,
-  c.step-done.kept.1.1.1.1.1.0 ∙ c.loop-from.inv.4,
-  c.step-done.kept.1.1.1.1.1.1.0 ∙ c.loop-from.inv.5,
-  c.step-done.kept.1.1.1.1.1.1.1.0 ∙ c.gather-got.kept.1.1.0 ∙ c.loop-from.inv.6,
-  c.step-done.kept.1.1.1.1.1.1.1.1.1.0 ∙ c.loop-from.inv.7,
+  c.step-done.kept.1.0 ∙ c.loop-from.invariant.0,
+  c.step-done.kept.1.1.0 ∙ c.loop-from.invariant.1,
+  c.step-done.kept.1.1.1.0 ∙ c.loop-from.invariant.2,
+  c.step-done.kept.1.1.1.1.0 ∙ c.loop-from.invariant.3,
+  c.step-done.kept.1.1.1.1.1.0 ∙ c.loop-from.invariant.4,
+  c.step-done.kept.1.1.1.1.1.1.0 ∙ c.loop-from.invariant.5,
+  c.step-done.kept.1.1.1.1.1.1.1.0 ∙ c.gather-got.kept.1.1.0 ∙ c.loop-from.invariant.6,
+  c.step-done.kept.1.1.1.1.1.1.1.1.1.0 ∙ c.loop-from.invariant.7,
   c.step-done.ensures,
 )
 
@@ -60,7 +60,7 @@ loop-from-smaller c =
 
 pub loop-from-preserved : goal.loop-from-preserved
 loop-from-preserved c =
-    (c.loop-from.inv.0, c.loop-from.inv.1, c.loop-from.inv.2, c.loop-from.inv.3, c.loop-from.inv.4, c.loop-from.inv.5, c.gather-got.kept.1.1.0 ∙ c.loop-from.inv.6, c.loop-from.inv.7, c.loop-from.inv.8)
+    (c.loop-from.invariant.0, c.loop-from.invariant.1, c.loop-from.invariant.2, c.loop-from.invariant.3, c.loop-from.invariant.4, c.loop-from.invariant.5, c.gather-got.kept.1.1.0 ∙ c.loop-from.invariant.6, c.loop-from.invariant.7, c.loop-from.invariant.8)
 
 pub shape_of-keys : goal.shape_of-keys
 shape_of-keys c =

@@ -19,12 +19,12 @@ slice_bounds-part-end-in-loop-turns c =
 
 pub feed-fed-requires : goal.feed-fed-requires
 feed-fed-requires c = (
-  omega (arith, c.loop-turns.inv.0, c.requires.keys_len_bound),
+  omega (arith, c.loop-turns.invariant.0, c.requires.keys_len_bound),
   (
-    omega (arith, c.loop-turns.inv.3, c.requires.records_len_bound),
+    omega (arith, c.loop-turns.invariant.3, c.requires.records_len_bound),
     (
-      omega (arith, c.loop-turns.inv.4, c.requires.words_len_bound),
-      (omega (arith, c.loop-turns.inv.5, c.requires.buffer_len_bound), (omega (arith, c.loop-turns.inv.6, c.requires.line_len_bound), c.loop-turns.inv.8)),
+      omega (arith, c.loop-turns.invariant.4, c.requires.words_len_bound),
+      (omega (arith, c.loop-turns.invariant.5, c.requires.buffer_len_bound), (omega (arith, c.loop-turns.invariant.6, c.requires.line_len_bound), c.loop-turns.invariant.8)),
     ),
   ),
 )
@@ -41,15 +41,15 @@ loop-turns-smaller c =
 
 pub loop-turns-preserved : goal.loop-turns-preserved
 loop-turns-preserved c = (
-  c.feed-fed.kept.1.0 ∙ c.loop-turns.inv.0,
-  c.feed-fed.kept.1.1.0 ∙ c.loop-turns.inv.1,
-  c.feed-fed.kept.1.1.1.0 ∙ c.loop-turns.inv.2,
-  c.feed-fed.kept.1.1.1.1.0 ∙ c.loop-turns.inv.3,
-  c.feed-fed.kept.1.1.1.1.1.0 ∙ c.loop-turns.inv.4,
-  c.feed-fed.kept.1.1.1.1.1.1.0 ∙ c.loop-turns.inv.5,
-  c.feed-fed.kept.1.1.1.1.1.1.1.0 ∙ c.loop-turns.inv.6,
-  c.read_part-got.kept.0 ∙ c.loop-turns.inv.7,
-  omega (arith, c.feed-fed.kept.1.1.1.1.1.1.1.1.1.1.0, c.loop-turns.inv.8),
+  c.feed-fed.kept.1.0 ∙ c.loop-turns.invariant.0,
+  c.feed-fed.kept.1.1.0 ∙ c.loop-turns.invariant.1,
+  c.feed-fed.kept.1.1.1.0 ∙ c.loop-turns.invariant.2,
+  c.feed-fed.kept.1.1.1.1.0 ∙ c.loop-turns.invariant.3,
+  c.feed-fed.kept.1.1.1.1.1.0 ∙ c.loop-turns.invariant.4,
+  c.feed-fed.kept.1.1.1.1.1.1.0 ∙ c.loop-turns.invariant.5,
+  c.feed-fed.kept.1.1.1.1.1.1.1.0 ∙ c.loop-turns.invariant.6,
+  c.read_part-got.kept.0 ∙ c.loop-turns.invariant.7,
+  omega (arith, c.feed-fed.kept.1.1.1.1.1.1.1.1.1.1.0, c.loop-turns.invariant.8),
 )
 
 pub shape_of-keys-then-failed : goal.shape_of-keys-then-failed

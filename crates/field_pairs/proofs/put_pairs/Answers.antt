@@ -30,7 +30,7 @@ loop-c-preserved-in-Cluster c =
     let bytes : List ℕ = c.args.bytes.now in
     let at_cluster_lem : ToCluster bytes c.loop-c.cluster c.loop-c.cursor c.in-Cluster.c c.in-Cluster.next = to_cluster _ _ _ c.loop-c.invariant.0 _ _ (sym c.next.ensures ∙ c.in-Cluster.is) in
     let t = at_cluster_lem in
-    (t.readable, c.loop-c.inv.1, put_same _ _ _ (sym t.rest) ∙ c.loop-c.inv.2)
+    (t.readable, c.loop-c.invariant.1, put_same _ _ _ (sym t.rest) ∙ c.loop-c.invariant.2)
 
 pub loop-c-smaller : goal.loop-c-smaller
 loop-c-smaller c =
@@ -44,8 +44,8 @@ loop-c-preserved c =
     let at_attribute_lem : ToAttribute bytes c.loop-c.cluster c.loop-c.cursor c.in-Attribute.a c.in-Attribute.next = to_attribute _ _ _ c.loop-c.invariant.0 _ _ (sym c.next.ensures ∙ c.in-Attribute.is) in
     let t = at_attribute_lem in (
       t.readable,
-      same-room _ _ _ c.put_word-n.ensures ∙ c.loop-c.inv.1,
-      put_step _ _ _ _ c.pair_word.ensures c.put_word-n.ensures _ ∙ put_same _ _ _ (sym t.rest) ∙ c.loop-c.inv.2,
+      same-room _ _ _ c.put_word-n.ensures ∙ c.loop-c.invariant.1,
+      put_step _ _ _ _ c.pair_word.ensures c.put_word-n.ensures _ ∙ put_same _ _ _ (sym t.rest) ∙ c.loop-c.invariant.2,
     )
 
 pub shape_of-out-in-Done : goal.shape_of-out-in-Done

@@ -17,7 +17,7 @@ loop-next-init c =
 
 pub shape_of-seen-in_default : goal.shape_of-seen-in_default
 shape_of-seen-in_default c =
-    c.loop-next.inv.same_length
+    c.loop-next.invariant.same_length
 
 pub returns-in_default : goal.returns-in_default
 returns-in_default c =
@@ -26,16 +26,16 @@ returns-in_default c =
 
 pub shape_of-seen-then-most-n : goal.shape_of-seen-then-most-n
 shape_of-seen-then-most-n c =
-    c.loop-next.inv.same_length
+    c.loop-next.invariant.same_length
 
 pub returns-then-most-n : goal.returns-then-most-n
 returns-then-most-n c =
-    turn_full keys_local c.loop-next.inv _ _ (sym c.member_at-step.ensures ∙ c.in-Member.is) _
+    turn_full keys_local c.loop-next.invariant _ _ (sym c.member_at-step.ensures ∙ c.in-Member.is) _
     (ap key_in (sym c.entry_at.ensures ∙ c.in-Scene.is)) c.if-most-n.true
 
 pub key_clashes-clash-requires : goal.key_clashes-clash-requires
 key_clashes-clash-requires c =
-    turn_room keys_local c.loop-next.inv c.if-most-n.false _
+    turn_room keys_local c.loop-next.invariant c.if-most-n.false _
 
 pub loop-next-smaller : goal.loop-next-smaller
 loop-next-smaller c =
@@ -43,7 +43,7 @@ loop-next-smaller c =
 
 pub loop-next-preserved : goal.loop-next-preserved
 loop-next-preserved c =
-    turn_next keys_local c.loop-next.inv _ _ (sym c.member_at-step.ensures ∙ c.in-Member.is) _
+    turn_next keys_local c.loop-next.invariant _ _ (sym c.member_at-step.ensures ∙ c.in-Member.is) _
     (ap key_in (sym c.entry_at.ensures ∙ c.in-Scene.is)) c.if-most-n.false _ c.key_clashes-clash.ensures
 
 pub shape_of-seen-in-End : goal.shape_of-seen-in-End

@@ -23,28 +23,28 @@ pub loop-next-smaller-in-Cluster : goal.loop-next-smaller-in-Cluster
 loop-next-smaller-in-Cluster c =
     let bytes : List ℕ = c.args.bytes.now in
     let yields : next_item bytes c.loop-next.cursor ≡ c.next.result = sym c.next.ensures in
-    nearer_cluster bytes c.loop-next.cursor _ _ c.loop-next.inv.1 _ _ (yields ∙ c.in-Cluster.is)
+    nearer_cluster bytes c.loop-next.cursor _ _ c.loop-next.invariant.1 _ _ (yields ∙ c.in-Cluster.is)
 
 pub loop-next-preserved-in-Cluster : goal.loop-next-preserved-in-Cluster
 loop-next-preserved-in-Cluster c =
     let bytes : List ℕ = c.args.bytes.now in
     let yields : next_item bytes c.loop-next.cursor ≡ c.next.result = sym c.next.ensures in (
-      c.put_cluster-next.auto.out ∙ c.loop-next.inv.0,
-      shows_cluster bytes c.loop-next.cursor _ _ c.loop-next.inv.1 _ _ _ (yields ∙ c.in-Cluster.is) c.put_cluster-next.ensures,
+      c.put_cluster-next.auto.out ∙ c.loop-next.invariant.0,
+      shows_cluster bytes c.loop-next.cursor _ _ c.loop-next.invariant.1 _ _ _ (yields ∙ c.in-Cluster.is) c.put_cluster-next.ensures,
     )
 
 pub loop-next-smaller : goal.loop-next-smaller
 loop-next-smaller c =
     let bytes : List ℕ = c.args.bytes.now in
     let yields : next_item bytes c.loop-next.cursor ≡ c.next.result = sym c.next.ensures in
-    nearer_attribute bytes c.loop-next.cursor _ _ c.loop-next.inv.1 _ _ (yields ∙ c.in-Attribute.is)
+    nearer_attribute bytes c.loop-next.cursor _ _ c.loop-next.invariant.1 _ _ (yields ∙ c.in-Attribute.is)
 
 pub loop-next-preserved : goal.loop-next-preserved
 loop-next-preserved c =
     let bytes : List ℕ = c.args.bytes.now in
     let yields : next_item bytes c.loop-next.cursor ≡ c.next.result = sym c.next.ensures in (
-      c.put_attribute-next.auto.out ∙ c.loop-next.inv.0,
-      shows_attribute bytes c.loop-next.cursor _ _ c.loop-next.inv.1 _ _ _ (yields ∙ c.in-Attribute.is) c.put_attribute-next.ensures,
+      c.put_attribute-next.auto.out ∙ c.loop-next.invariant.0,
+      shows_attribute bytes c.loop-next.cursor _ _ c.loop-next.invariant.1 _ _ _ (yields ∙ c.in-Attribute.is) c.put_attribute-next.ensures,
     )
 
 pub shape_of-out-in-Done : goal.shape_of-out-in-Done

@@ -2,7 +2,7 @@
 -- on any others it answers 6. Assumes nothing.
 use mathlib.Core.Path.{◌≡◌, sym, ap, ◌∙◌}
 use mathlib.Core.Bool.{true}
-use borrow.Author.Tests.{not_true, not_false}
+use borrow.Author.Tests.{not-true, not-false}
 use Rattle.state.specs.Table.{Table, table_of}
 use Rattle.groups.specs.declared.GroupsState.{GroupsState}
 use Rattle.groups.specs.Groups.{Groups, groups_of, groups_sound, no_groups}

@@ -2,7 +2,7 @@
 -- all that is told yes, with every match gone. Assumes nothing.
 use mathlib.Core.Path.{◌≡◌, sym, ap, ◌∙◌}
 use mathlib.Core.Bool.{true}
-use borrow.Author.Tests.{not_true, not_false}
+use borrow.Author.Tests.{not-true, not-false}
 use Rattle.state.specs.Table.{Table, table_of}
 use Rattle.state.specs.Sound.{sound}
 use Rattle.groups.specs.Groups.{Groups, groups_of, groups_sound}

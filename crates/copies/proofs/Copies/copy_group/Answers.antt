@@ -29,28 +29,28 @@ loop-i-init c =
 
 pub copy_entry-done-requires : goal.copy_entry-done-requires
 copy_entry-done-requires c =
-    record { entry_room = c.loop-i.inv.room; at_lt_entries = omega arith }
+    record { entry_room = c.loop-i.invariant.room; at_lt_entries = omega arith }
 
 pub returns-then-status-ne-SUCCESS : goal.returns-then-status-ne-SUCCESS
 returns-then-status-ne-SUCCESS c =
     let made : Copied = copied_of c.copy_entry-done.result.status (entries_of c.copy_entry-done.result.state c.copy_entry-done.new.keys c.copy_entry-done.new.times c.copy_entry-done.new.fields) in
     let made_by : (let e = entries_of c.loop-i.state c.loop-i.keys c.loop-i.times c.loop-i.fields in made ≡ copy_entry c.loop-i.i (key_in c.args.to (get_or c.loop-i.keys c.loop-i.i 0)) e) = c.copy_entry-done.ensures ∙ named c.args.to c.loop-i.i _ _ c.scene_of.ensures in
-    stop c.loop-i.inv c.loop-i-test.taken (sym c.holds.ensures ∙ c.if-holds.true)
+    stop c.loop-i.invariant c.loop-i-test.true (sym c.holds.ensures ∙ c.if-holds.true)
     {o = made} made_by c.if-status-ne-SUCCESS.true c.args.from refl
 
 pub overflow_add-i : goal.overflow_add-i
 overflow_add-i c =
-    omega (arith, c.loop-i-test.taken)
+    omega (arith, c.loop-i-test.true)
 
 pub loop-i-smaller-then-holds : goal.loop-i-smaller-then-holds
 loop-i-smaller-then-holds c =
-    omega (arith, c.loop-i-test.taken)
+    omega (arith, c.loop-i-test.true)
 
 pub loop-i-preserved-then-holds : goal.loop-i-preserved-then-holds
 loop-i-preserved-then-holds c =
     let made : Copied = copied_of c.copy_entry-done.result.status (entries_of c.copy_entry-done.result.state c.copy_entry-done.new.keys c.copy_entry-done.new.times c.copy_entry-done.new.fields) in
     let made_by : (let e = entries_of c.loop-i.state c.loop-i.keys c.loop-i.times c.loop-i.fields in made ≡ copy_entry c.loop-i.i (key_in c.args.to (get_or c.loop-i.keys c.loop-i.i 0)) e) = c.copy_entry-done.ensures ∙ named c.args.to c.loop-i.i _ _ c.scene_of.ensures in
-    step c.loop-i.inv c.loop-i-test.taken (sym c.holds.ensures ∙ c.if-holds.true)
+    step c.loop-i.invariant c.loop-i-test.true (sym c.holds.ensures ∙ c.if-holds.true)
     {o = made} made_by c.if-status-ne-SUCCESS.false (record { keys = c.copy_entry-done.kept.1.0; times = c.copy_entry-done.kept.1.1.0; fields = c.copy_entry-done.kept.1.1.1.0 })
 
 pub loop-i-preserved : goal.loop-i-preserved

@@ -33,7 +33,7 @@ returns-in_default-number_once c =
     let is_number : tagged number_tag c.in-Whole.h ≡ true = sym c.is_tagged.ensures ∙ c.if-is_tagged.true in
     sym
     (pair_twice _ _ _ _ read c.if-h-eq-END_CNT.false is_number (sym c.number_once.ensures ∙ c.in_default-number_once.is))
-    ∙ c.loop-h.inv
+    ∙ c.loop-h.invariant
 
 pub loop-h-smaller-then-is_tagged : goal.loop-h-smaller-then-is_tagged
 loop-h-smaller-then-is_tagged c =
@@ -46,14 +46,14 @@ loop-h-preserved-then-is_tagged c =
     let is_number : tagged number_tag c.in-Whole.h ≡ true = sym c.is_tagged.ensures ∙ c.if-is_tagged.true in
     sym
     (pair_number _ _ _ _ read c.if-h-eq-END_CNT.false is_number _ (sym c.number_once.ensures ∙ c.in-Read.is))
-    ∙ c.loop-h.inv
+    ∙ c.loop-h.invariant
 
 pub returns-in_default-skip : goal.returns-in_default-skip
 returns-in_default-skip c =
     let read : element_at c.args.bytes.now c.loop-h.i ≡ Whole c.in-Whole.h = sym c.element_at.ensures ∙ c.in-Whole.is in
     let no_number : tagged number_tag c.in-Whole.h ≡ false = sym c.is_tagged.ensures ∙ c.if-is_tagged.false in
     sym (pair_deep _ _ _ _ read c.if-h-eq-END_CNT.false no_number (sym c.skip.ensures ∙ c.in_default-skip.is))
-    ∙ c.loop-h.inv
+    ∙ c.loop-h.invariant
 
 pub loop-h-smaller : goal.loop-h-smaller
 loop-h-smaller c =
@@ -69,4 +69,4 @@ loop-h-preserved c =
     let read : element_at c.args.bytes.now c.loop-h.i ≡ Whole c.in-Whole.h = sym c.element_at.ensures ∙ c.in-Whole.is in
     let no_number : tagged number_tag c.in-Whole.h ≡ false = sym c.is_tagged.ensures ∙ c.if-is_tagged.false in
     sym (pair_other _ _ _ _ read c.if-h-eq-END_CNT.false no_number _ (sym c.skip.ensures ∙ c.in-At.is))
-    ∙ c.loop-h.inv
+    ∙ c.loop-h.invariant

@@ -27,12 +27,12 @@ returns-then-h-eq-END_CNT c =
 pub returns-in_default-pair_at : goal.returns-in_default-pair_at
 returns-in_default-pair_at c =
     let read : element_at c.args.bytes.now c.loop-h.i ≡ Whole c.in-Whole.h = sym c.element_at.ensures ∙ c.in-Whole.is in
-    sym (array_fails _ _ _ _ _ read c.if-h-eq-END_CNT.false (sym c.pair_at.ensures ∙ c.in_default-pair_at.is)) ∙ c.loop-h.inv.1
+    sym (array_fails _ _ _ _ _ read c.if-h-eq-END_CNT.false (sym c.pair_at.ensures ∙ c.in_default-pair_at.is)) ∙ c.loop-h.invariant.1
 
 pub overflow_add-count : goal.overflow_add-count
 overflow_add-count c =
     let read : element_at c.args.bytes.now c.loop-h.i ≡ Whole c.in-Whole.h = sym c.element_at.ensures ∙ c.in-Whole.is in
-    omega (arith, element_on _ _ _ read, c.loop-h.inv.0)
+    omega (arith, element_on _ _ _ read, c.loop-h.invariant.0)
 
 pub loop-h-smaller : goal.loop-h-smaller
 loop-h-smaller c =
@@ -42,6 +42,6 @@ pub loop-h-preserved : goal.loop-h-preserved
 loop-h-preserved c =
     let read : element_at c.args.bytes.now c.loop-h.i ≡ Whole c.in-Whole.h = sym c.element_at.ensures ∙ c.in-Whole.is in
     let pair = sym c.pair_at.ensures ∙ c.in-Attribute.is in (
-      omega (arith, pair_on _ _ _ _ pair, c.loop-h.inv.0),
-      sym (array_goes _ _ _ _ _ read c.if-h-eq-END_CNT.false _ _ pair) ∙ c.loop-h.inv.1,
+      omega (arith, pair_on _ _ _ _ pair, c.loop-h.invariant.0),
+      sym (array_goes _ _ _ _ _ read c.if-h-eq-END_CNT.false _ _ pair) ∙ c.loop-h.invariant.1,
     )

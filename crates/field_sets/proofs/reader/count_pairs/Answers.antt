@@ -17,7 +17,7 @@ pub overflow_add-total : goal.overflow_add-total
 overflow_add-total c =
     let within : Within c.args.bytes.now c.loop-count.at c.in-Set.field-0 c.in-Set.field-1 c.in-Set.count c.in-Set.next = set-within _ _ _ _ _ _ (sym c.next_set.ensures ∙ c.in-Set.is) in
     let w = within in
-    omega (arith, w.roomy, w.inside, c.loop-count.inv.0)
+    omega (arith, w.roomy, w.inside, c.loop-count.invariant.0)
 
 pub loop-count-smaller : goal.loop-count-smaller
 loop-count-smaller c =
@@ -29,9 +29,9 @@ pub loop-count-preserved : goal.loop-count-preserved
 loop-count-preserved c =
     let within : Within c.args.bytes.now c.loop-count.at c.in-Set.field-0 c.in-Set.field-1 c.in-Set.count c.in-Set.next = set-within _ _ _ _ _ _ (sym c.next_set.ensures ∙ c.in-Set.is) in
     let w = within in (
-      omega (arith, w.roomy, c.loop-count.inv.0),
+      omega (arith, w.roomy, c.loop-count.invariant.0),
       w.inside,
-      sym (total_goes _ _ _ _ _ _ _ (sym c.next_set.ensures ∙ c.in-Set.is)) ∙ c.loop-count.inv.2,
+      sym (total_goes _ _ _ _ _ _ _ (sym c.next_set.ensures ∙ c.in-Set.is)) ∙ c.loop-count.invariant.2,
     )
 
 pub returns-in-End : goal.returns-in-End

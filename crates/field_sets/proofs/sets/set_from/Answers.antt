@@ -35,7 +35,7 @@ returns-in_default-number_once c =
     let is_number : tagged number_tag c.in-Whole.h ≡ true = sym c.is_tagged.ensures ∙ c.if-is_tagged.true in
     sym
     (set_number_twice _ _ _ _ _ read c.if-h-eq-END_CNT.false is_number (sym c.number_once.ensures ∙ c.in_default-number_once.is))
-    ∙ c.loop-h.inv
+    ∙ c.loop-h.invariant
 
 pub loop-h-smaller-then-is_tagged : goal.loop-h-smaller-then-is_tagged
 loop-h-smaller-then-is_tagged c =
@@ -48,7 +48,7 @@ loop-h-preserved-then-is_tagged c =
     let is_number : tagged number_tag c.in-Whole.h ≡ true = sym c.is_tagged.ensures ∙ c.if-is_tagged.true in
     sym
     (set-number _ _ _ _ _ read c.if-h-eq-END_CNT.false is_number _ (sym c.number_once.ensures ∙ c.in-Read.is))
-    ∙ c.loop-h.inv
+    ∙ c.loop-h.invariant
 
 pub returns-in_default-array_once : goal.returns-in_default-array_once
 returns-in_default-array_once c =
@@ -58,7 +58,7 @@ returns-in_default-array_once c =
     sym
     (set_array_twice _ _ _ _ _ read c.if-h-eq-END_CNT.false no_number is-array
     (sym c.array_once.ensures ∙ c.in_default-array_once.is))
-    ∙ c.loop-h.inv
+    ∙ c.loop-h.invariant
 
 pub loop-h-smaller-then-is_tagged-2 : goal.loop-h-smaller-then-is_tagged-2
 loop-h-smaller-then-is_tagged-2 c =
@@ -77,7 +77,7 @@ loop-h-preserved-then-is_tagged-2 c =
     sym
     (set-array _ _ _ _ _ read c.if-h-eq-END_CNT.false no_number is-array _ _ _
     (sym c.array_once.ensures ∙ c.in-Pairs.is))
-    ∙ c.loop-h.inv
+    ∙ c.loop-h.invariant
 
 pub returns-in_default-skip : goal.returns-in_default-skip
 returns-in_default-skip c =
@@ -86,7 +86,7 @@ returns-in_default-skip c =
     let no_array : tagged pairs_tag c.in-Whole.h ≡ false = sym c.is_tagged-else-is_tagged.ensures ∙ c.if-is_tagged-2.false in
     sym
     (set_deep _ _ _ _ _ read c.if-h-eq-END_CNT.false no_number no_array (sym c.skip.ensures ∙ c.in_default-skip.is))
-    ∙ c.loop-h.inv
+    ∙ c.loop-h.invariant
 
 pub loop-h-smaller : goal.loop-h-smaller
 loop-h-smaller c =
@@ -104,4 +104,4 @@ loop-h-preserved c =
     let no_array : tagged pairs_tag c.in-Whole.h ≡ false = sym c.is_tagged-else-is_tagged.ensures ∙ c.if-is_tagged-2.false in
     sym
     (set_other _ _ _ _ _ read c.if-h-eq-END_CNT.false no_number no_array _ (sym c.skip.ensures ∙ c.in-At.is))
-    ∙ c.loop-h.inv
+    ∙ c.loop-h.invariant

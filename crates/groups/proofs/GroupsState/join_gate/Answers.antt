@@ -1,7 +1,7 @@
 -- `GroupsState::join_gate` meets its contract. Assumes nothing.
 use mathlib.Core.Path.{refl, sym, ◌∙◌}
 use borrow.Author.Rules.{rules}
-use borrow.Author.Tests.{eq-eqb, ne_eqb, not_true, not_false}
+use borrow.Author.Tests.{eq-eqb, ne_eqb, not-true, not-false}
 use Rattle.requests.specs.Requests.{first_refusal, or_next}
 use Rattle.groups.specs.Groups.{join_gate}
 use Rattle.groups.proofs.GroupsState.join_gate.Goals as goal

@@ -16,15 +16,15 @@ loop-next-init c =
 
 pub shape_of-keys-in_default : goal.shape_of-keys-in_default
 shape_of-keys-in_default c =
-    c.loop-next.inv.lengths.keys
+    c.loop-next.invariant.lengths.keys
 
 pub shape_of-times-in_default : goal.shape_of-times-in_default
 shape_of-times-in_default c =
-    c.loop-next.inv.lengths.times
+    c.loop-next.invariant.lengths.times
 
 pub shape_of-fields-in_default : goal.shape_of-fields-in_default
 shape_of-fields-in_default c =
-    c.loop-next.inv.lengths.fields
+    c.loop-next.invariant.lengths.fields
 
 pub returns-in_default : goal.returns-in_default
 returns-in_default c =
@@ -53,7 +53,7 @@ pub put-requires : goal.put-requires
 put-requires c =
     let bounds : EntryBounds c.args.bytes.now c.in-Scene.slot = entry_bounds _ (λ i. (c.shared_slice_known-1.given i).fits) _ _
     (sym c.entry_at.ensures ∙ c.in-Scene.is) in
-    fill_asks c.loop-next.inv _ _ (sym c.member_at-step.ensures ∙ c.in-Member.is) _
+    fill_asks c.loop-next.invariant _ _ (sym c.member_at-step.ensures ∙ c.in-Member.is) _
     (sym c.entry_at.ensures ∙ c.in-Scene.is) bounds
 
 -- a position counts at least as far as the members before it
@@ -61,7 +61,7 @@ pub overflow_add-n : goal.overflow_add-n
 overflow_add-n c =
     omega (
       arith,
-      c.loop-next.inv.behind,
+      c.loop-next.invariant.behind,
       c.known_told-1.given,
       member_on _ _ _ _ (sym c.member_at-step.ensures ∙ c.in-Member.is),
     )
@@ -74,7 +74,7 @@ pub loop-next-preserved : goal.loop-next-preserved
 loop-next-preserved c =
     let bounds : EntryBounds c.args.bytes.now c.in-Scene.slot = entry_bounds _ (λ i. (c.shared_slice_known-1.given i).fits) _ _
     (sym c.entry_at.ensures ∙ c.in-Scene.is) in
-    fill_next c.loop-next.inv _ _ (sym c.member_at-step.ensures ∙ c.in-Member.is) _
+    fill_next c.loop-next.invariant _ _ (sym c.member_at-step.ensures ∙ c.in-Member.is) _
     (sym c.entry_at.ensures ∙ c.in-Scene.is) _ c.put.ensures bounds
 
 pub shape_of-keys-in-End : goal.shape_of-keys-in-End

@@ -18,7 +18,7 @@ loop-next-init c =
 
 pub shape_of-records-in_default : goal.shape_of-records-in_default
 shape_of-records-in_default c =
-    c.loop-next.inv.same_length
+    c.loop-next.invariant.same_length
 
 pub returns-in_default : goal.returns-in_default
 returns-in_default c =
@@ -27,7 +27,7 @@ returns-in_default c =
 
 pub bounds-records-n : goal.bounds-records-n
 bounds-records-n c =
-    lay_room c.loop-next.inv _ _ (sym c.member_at-step.ensures ∙ c.in-Member.is) _
+    lay_room c.loop-next.invariant _ _ (sym c.member_at-step.ensures ∙ c.in-Member.is) _
     (ap (λ (r : Number). counting r none some) (sym c.record_at.ensures ∙ c.in-Value.is))
 
 pub loop-next-smaller : goal.loop-next-smaller
@@ -36,7 +36,7 @@ loop-next-smaller c =
 
 pub loop-next-preserved : goal.loop-next-preserved
 loop-next-preserved c =
-    lay_next c.loop-next.inv _ _ (sym c.member_at-step.ensures ∙ c.in-Member.is) _
+    lay_next c.loop-next.invariant _ _ (sym c.member_at-step.ensures ∙ c.in-Member.is) _
     (ap (λ (r : Number). counting r none some) (sym c.record_at.ensures ∙ c.in-Value.is))
 
 pub shape_of-records-in-End : goal.shape_of-records-in-End

@@ -33,7 +33,7 @@ overflow_add-len c =
     c.entry_len-len.ensures ∙ ap (entry_length (get_or s.keys c.loop-i.i 0) (get_or s.times c.loop-i.i 0)) c.length_at.ensures in
     let small : c.entry_len-len.result ≤ 200 = let s = came in
     omega (arith, counted, entry_le (get_or s.keys c.loop-i.i 0) (get_or s.times c.loop-i.i 0) (length_at s.fields c.loop-i.i) short) in
-    omega (arith, small, c.loop-i.inv.1.under)
+    omega (arith, small, c.loop-i.invariant.1.under)
 
 pub loop-i-preserved : goal.loop-i-preserved
 loop-i-preserved c =
@@ -46,7 +46,7 @@ loop-i-preserved c =
     omega (arith, counted, entry_le (get_or s.keys c.loop-i.i 0) (get_or s.times c.loop-i.i 0) (length_at s.fields c.loop-i.i) short) in
     let s = came in (
       omega arith,
-      one_counted _ _ _ _ _ _ c.loop-i.inv.1 (entries_more s c.loop-i.i)
+      one_counted _ _ _ _ _ _ c.loop-i.invariant.1 (entries_more s c.loop-i.i)
           (counted ∙ entry_at_length s c.loop-i.i (omega arith) short)
           small,
     )

@@ -22,7 +22,7 @@ loop-i-preserved c =
     let word : ℕ = get_or c.args.records.now c.loop-i.i 0 in
     let a = c.args in (
       omega arith,
-      one_counted _ _ _ _ _ _ c.loop-i.inv.1 (records_more a.records.now c.loop-i.i (omega arith))
+      one_counted _ _ _ _ _ _ c.loop-i.invariant.1 (records_more a.records.now c.loop-i.i (omega arith))
           (c.record_len-len.ensures ∙ sym (record_length_lem word)) (omega (arith, record_le word)),
     )
 

@@ -20,7 +20,7 @@ loop-i-init c =
 
 pub field_bytes-requires : goal.field_bytes-requires
 field_bytes-requires c =
-    record { stride_in_bounds = omega arith; at_bound = lengths_at c.args.fields.now c.args.n c.loop-i.i c.requires.n_value c.loop-i-test.taken }
+    record { stride_in_bounds = omega arith; at_bound = lengths_at c.args.fields.now c.args.n c.loop-i.i c.requires.n_value c.loop-i-test.true }
 
 pub loop-i-preserved : goal.loop-i-preserved
 loop-i-preserved c =
@@ -28,8 +28,8 @@ loop-i-preserved c =
     let s = came in
     let bytes : List ℕ → List ℕ = λ fields. entry_bytes (entry_of (get_or s.keys c.loop-i.i 0) (get_or s.times c.loop-i.i 0) fields) in (
       omega arith,
-      c.put_entry-next.auto.out ∙ c.loop-i.inv.1,
-      put_more _ _ _ _ _ _ (entries_more s c.loop-i.i) c.loop-i.inv.2 (put_same bytes _ _ _ _ c.put_entry-next.ensures c.field_bytes.ensures),
+      c.put_entry-next.auto.out ∙ c.loop-i.invariant.1,
+      put_more _ _ _ _ _ _ (entries_more s c.loop-i.i) c.loop-i.invariant.2 (put_same bytes _ _ _ _ c.put_entry-next.ensures c.field_bytes.ensures),
     )
 
 pub returns : goal.returns

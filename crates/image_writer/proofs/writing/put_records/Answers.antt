@@ -16,8 +16,8 @@ loop-i-init c =
 pub loop-i-preserved : goal.loop-i-preserved
 loop-i-preserved c = (
   omega arith,
-  c.put_record-next.auto.out ∙ c.loop-i.inv.1,
-  put_more _ _ _ _ _ _ (records_more c.args.records.now c.loop-i.i (omega arith)) c.loop-i.inv.2 c.put_record-next.ensures,
+  c.put_record-next.auto.out ∙ c.loop-i.invariant.1,
+  put_more _ _ _ _ _ _ (records_more c.args.records.now c.loop-i.i (omega arith)) c.loop-i.invariant.2 c.put_record-next.ensures,
 )
 
 pub returns : goal.returns

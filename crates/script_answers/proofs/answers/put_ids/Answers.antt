@@ -19,10 +19,10 @@ overflow_cast-buffer c =
 pub loop-i-preserved : goal.loop-i-preserved
 unfolding writes
 loop-i-preserved c = (
-  c.put_number-next.auto.out ∙ c.loop-i.inv.0,
+  c.put_number-next.auto.out ∙ c.loop-i.invariant.0,
   omega arith,
-  c.loop-i.inv.2,
-  c.put_number-next.ensures ∙ ap (puts _) c.loop-i.inv.3 ∙ sym (below_more _ _ _),
+  c.loop-i.invariant.2,
+  c.put_number-next.ensures ∙ ap (puts _) c.loop-i.invariant.3 ∙ sym (below_more _ _ _),
 )
 
 pub shape_of-out : goal.shape_of-out

@@ -21,9 +21,9 @@ pub loop-i-preserved : goal.loop-i-preserved
 loop-i-preserved c =
     let shown : ℕ → List (List ℕ) = let a = c.args in
     entry_shown a.stored a.keys.now a.times.now a.fields.now in (
-      c.put_entry_at-next.auto.out ∙ c.loop-i.inv.0,
+      c.put_entry_at-next.auto.out ∙ c.loop-i.invariant.0,
       omega arith,
-      c.put_entry_at-next.ensures ∙ ap (writes (shown c.loop-i.i)) c.loop-i.inv.2 ∙ sym (below_more _ _ _),
+      c.put_entry_at-next.ensures ∙ ap (writes (shown c.loop-i.i)) c.loop-i.invariant.2 ∙ sym (below_more _ _ _),
     )
 
 pub shape_of-out : goal.shape_of-out

@@ -14,10 +14,10 @@ loop-i-init c =
 
 pub loop-i-preserved : goal.loop-i-preserved
 loop-i-preserved c = (
-  c.put_group-next.auto.out ∙ c.loop-i.inv.0,
+  c.put_group-next.auto.out ∙ c.loop-i.invariant.0,
   omega arith,
-  c.loop-i.inv.2,
-  c.put_group-next.ensures ∙ ap (writes _) c.loop-i.inv.3 ∙ sym (below_more _ _ _),
+  c.loop-i.invariant.2,
+  c.put_group-next.ensures ∙ ap (writes _) c.loop-i.invariant.3 ∙ sym (below_more _ _ _),
 )
 
 pub shape_of-out : goal.shape_of-out

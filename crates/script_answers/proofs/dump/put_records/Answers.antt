@@ -14,11 +14,11 @@ loop-i-init c =
 
 pub loop-i-preserved : goal.loop-i-preserved
 loop-i-preserved c = (
-  c.put_record-next.auto.out ∙ c.loop-i.inv.0,
+  c.put_record-next.auto.out ∙ c.loop-i.invariant.0,
   omega arith,
   c.put_record-next.ensures
       ∙ ap (λ (w : ℕ). writes (record_line w) (sheet c.loop-i.out c.loop-i.next)) c.word_at.ensures
-      ∙ ap (writes (record_line (get_or c.args.records.now c.loop-i.i 0))) c.loop-i.inv.2
+      ∙ ap (writes (record_line (get_or c.args.records.now c.loop-i.i 0))) c.loop-i.invariant.2
       ∙ sym (below_more _ _ _),
 )
 

@@ -13,11 +13,11 @@ loop-i-init c =
 
 pub returns-then-letter-letters : goal.returns-then-letter-letters
 returns-then-letter-letters c =
-    sym (of_found _ _ _ c.loop-i-test.taken c.if-letter-letters.true) ∙ c.loop-i.inv
+    sym (of_found _ _ _ c.loop-i-test.true c.if-letter-letters.true) ∙ c.loop-i.invariant
 
 pub loop-i-preserved : goal.loop-i-preserved
 loop-i-preserved c =
-    sym (of_next _ _ _ c.loop-i-test.taken c.if-letter-letters.false) ∙ c.loop-i.inv
+    sym (of_next _ _ _ c.loop-i-test.true c.if-letter-letters.false) ∙ c.loop-i.invariant
 
 pub returns : goal.returns
 returns c =

@@ -13,16 +13,16 @@ loop-i-init c =
 
 pub returns-then-hex_value-gt15 : goal.returns-then-hex_value-gt15
 returns-then-hex_value-gt15 c =
-    sym (c.loop-i.inv.1 ∙ all_pairs_high _ c.loop-i.i (omega arith) _ _ c.hex_value.ensures refl (omega arith))
+    sym (c.loop-i.invariant.1 ∙ all_pairs_high _ c.loop-i.i (omega arith) _ _ c.hex_value.ensures refl (omega arith))
 
 pub returns-then-hex_value-gt15-2 : goal.returns-then-hex_value-gt15-2
 returns-then-hex_value-gt15-2 c =
-    sym (c.loop-i.inv.1 ∙ all_pairs_low _ c.loop-i.i (omega arith) _ _ c.hex_value.ensures c.hex_value-in-loop-i.ensures (omega arith) (omega arith))
+    sym (c.loop-i.invariant.1 ∙ all_pairs_low _ c.loop-i.i (omega arith) _ _ c.hex_value.ensures c.hex_value-in-loop-i.ensures (omega arith) (omega arith))
 
 pub loop-i-preserved : goal.loop-i-preserved
 loop-i-preserved c = (
   omega arith,
-  c.loop-i.inv.1 ∙ all_pairs_next _ c.loop-i.i (omega arith) _ _ c.hex_value.ensures c.hex_value-in-loop-i.ensures (omega arith) (omega arith),
+  c.loop-i.invariant.1 ∙ all_pairs_next _ c.loop-i.i (omega arith) _ _ c.hex_value.ensures c.hex_value-in-loop-i.ensures (omega arith) (omega arith),
 )
 
 pub returns : goal.returns

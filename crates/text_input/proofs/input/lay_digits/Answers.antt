@@ -18,10 +18,10 @@ loop-i-smaller c =
 
 pub loop-i-preserved : goal.loop-i-preserved
 loop-i-preserved c = (
-  simp length-set c.loop-i.inv.0,
+  simp length-set c.loop-i.invariant.0,
   omega arith,
-  c.loop-i.inv.2 ∙ digits_next c.loop-i.word c.loop-i.i c.loop-i-test.true _ c.digit_value.ensures,
-  behind-set c.loop-i.word _ c.loop-i.i _ c.loop-i.inv.3,
+  c.loop-i.invariant.2 ∙ digits_next c.loop-i.word c.loop-i.i c.loop-i-test.true _ c.digit_value.ensures,
+  behind-set c.loop-i.word _ c.loop-i.i _ c.loop-i.invariant.3,
 )
 
 pub shape_of-word : goal.shape_of-word

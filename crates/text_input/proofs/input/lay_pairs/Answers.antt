@@ -16,21 +16,21 @@ loop-i-init c =
 
 pub overflow_mul-word : goal.overflow_mul-word
 overflow_mul-word c =
-    let d = pairs_are c.loop-i.word c.loop-i.i (omega arith) _ _ c.hex_value-high.ensures c.hex_value-low.ensures c.loop-i.inv.3 in
+    let d = pairs_are c.loop-i.word c.loop-i.i (omega arith) _ _ c.hex_value-high.ensures c.hex_value-low.ensures c.loop-i.invariant.3 in
     omega arith
 
 pub overflow_add-word : goal.overflow_add-word
 overflow_add-word c =
-    let d = pairs_are c.loop-i.word c.loop-i.i (omega arith) _ _ c.hex_value-high.ensures c.hex_value-low.ensures c.loop-i.inv.3 in
+    let d = pairs_are c.loop-i.word c.loop-i.i (omega arith) _ _ c.hex_value-high.ensures c.hex_value-low.ensures c.loop-i.invariant.3 in
     omega arith
 
 pub loop-i-preserved : goal.loop-i-preserved
 loop-i-preserved c = (
-  simp length-set c.loop-i.inv.0,
+  simp length-set c.loop-i.invariant.0,
   omega arith,
-  c.loop-i.inv.2 ∙ pairs_next c.loop-i.word c.loop-i.i (omega arith) _ _ c.hex_value-high.ensures c.hex_value-low.ensures,
-  pairs_rest c.loop-i.word c.loop-i.i (omega arith) _ _ c.hex_value-high.ensures c.hex_value-low.ensures c.loop-i.inv.3,
-  behind-set c.loop-i.word _ c.loop-i.i _ c.loop-i.inv.4,
+  c.loop-i.invariant.2 ∙ pairs_next c.loop-i.word c.loop-i.i (omega arith) _ _ c.hex_value-high.ensures c.hex_value-low.ensures,
+  pairs_rest c.loop-i.word c.loop-i.i (omega arith) _ _ c.hex_value-high.ensures c.hex_value-low.ensures c.loop-i.invariant.3,
+  behind-set c.loop-i.word _ c.loop-i.i _ c.loop-i.invariant.4,
 )
 
 pub shape_of-word : goal.shape_of-word

@@ -32,11 +32,11 @@ returns-then-most-value c =
 
 pub returns-then-most-value-2 : goal.returns-then-most-value-2
 returns-then-most-value-2 c =
-    sym (c.loop-i.inv ∙ number_large _ _ _ _ c.loop-i-test.taken _ c.digit_value-digit.ensures c.if-digit-gt9.false (omega arith))
+    sym (c.loop-i.invariant ∙ number_large _ _ _ _ c.loop-i-test.true _ c.digit_value-digit.ensures c.if-digit-gt9.false (omega arith))
 
 pub loop-i-preserved : goal.loop-i-preserved
 loop-i-preserved c =
-    c.loop-i.inv ∙ number-next _ _ _ _ c.loop-i-test.taken _ c.digit_value-digit.ensures c.if-digit-gt9.false (omega arith)
+    c.loop-i.invariant ∙ number-next _ _ _ _ c.loop-i-test.true _ c.digit_value-digit.ensures c.if-digit-gt9.false (omega arith)
 
 pub returns : goal.returns
 returns c =

@@ -17,11 +17,11 @@ loop-i-init c =
 
 pub returns-then-a-i : goal.returns-then-a-i
 returns-then-a-i c =
-    sym (c.loop-i.inv.1 ∙ same-other _ _ _ c.loop-i-test.taken (omega (arith, c.loop-i.inv.0)) c.if-a-i.true)
+    sym (c.loop-i.invariant.1 ∙ same-other _ _ _ c.loop-i-test.true (omega (arith, c.loop-i.invariant.0)) c.if-a-i.true)
 
 pub loop-i-preserved : goal.loop-i-preserved
 loop-i-preserved c =
-    (c.loop-i.inv.0, c.loop-i.inv.1 ∙ same_next _ _ _ c.loop-i-test.taken (omega (arith, c.loop-i.inv.0)) c.if-a-i.false)
+    (c.loop-i.invariant.0, c.loop-i.invariant.1 ∙ same_next _ _ _ c.loop-i-test.true (omega (arith, c.loop-i.invariant.0)) c.if-a-i.false)
 
 pub returns : goal.returns
 returns c =

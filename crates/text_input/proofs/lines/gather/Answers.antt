@@ -17,24 +17,24 @@ loop-i-init c =
 
 pub shape_of-line-then-b-eq10 : goal.shape_of-line-then-b-eq10
 shape_of-line-then-b-eq10 c =
-    c.loop-i.inv.0
+    c.loop-i.invariant.0
 
 pub returns-then-b-eq10 : goal.returns-then-b-eq10
 returns-then-b-eq10 c =
     let a = c.args in
-    let e = line_end_lem _ _ _ c.loop-i.inv.1 c.loop-i-test.taken (ap not (eq-eqb _ _ c.if-b-eq10.true)) in
+    let e = line_end_lem _ _ _ c.loop-i.invariant.1 c.loop-i-test.true (ap not (eq-eqb _ _ c.if-b-eq10.true)) in
     record {
       ended = sym (lt-ltb (line_end a.chunk.now a.from) (length a.chunk.now) (omega arith));
       next = omega arith;
-      bytes = sym (sym c.loop-i.inv.2 ∙ line-done _ _ _ c.loop-i.inv.1 _ e);
+      bytes = sym (sym c.loop-i.invariant.2 ∙ line-done _ _ _ c.loop-i.invariant.1 _ e);
     }
 
 pub loop-i-preserved : goal.loop-i-preserved
 loop-i-preserved c =
     let n = ap not (ne_eqb _ _ c.if-b-eq10.false) in (
-      c.put-n.auto.out ∙ c.loop-i.inv.0,
-      line_on _ _ _ c.loop-i.inv.1 c.loop-i-test.taken n,
-      ap (puts _) c.put-n.ensures ∙ sym (line-next _ _ _ c.loop-i.inv.1 _ c.loop-i-test.taken n) ∙ c.loop-i.inv.2,
+      c.put-n.auto.out ∙ c.loop-i.invariant.0,
+      line_on _ _ _ c.loop-i.invariant.1 c.loop-i-test.true n,
+      ap (puts _) c.put-n.ensures ∙ sym (line-next _ _ _ c.loop-i.invariant.1 _ c.loop-i-test.true n) ∙ c.loop-i.invariant.2,
     )
 
 pub shape_of-line : goal.shape_of-line

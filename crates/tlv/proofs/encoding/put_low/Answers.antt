@@ -13,8 +13,8 @@ loop-left-init c =
 
 pub loop-left-preserved : goal.loop-left-preserved
 loop-left-preserved c = (
-  c.put-next.auto.out ∙ c.loop-left.inv.0,
-  c.loop-left.inv.1 ∙ low_more _ _ _ c.loop-left-test.taken ∙ ap (puts _) (sym c.put-next.ensures),
+  c.put-next.auto.out ∙ c.loop-left.invariant.0,
+  c.loop-left.invariant.1 ∙ low_more _ _ _ c.loop-left-test.true ∙ ap (puts _) (sym c.put-next.ensures),
 )
 
 pub returns : goal.returns

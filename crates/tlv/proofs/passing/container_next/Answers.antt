@@ -27,7 +27,7 @@ nested_by-level-requires c =
 pub returns-then-level-eq0 : goal.returns-then-level-eq0
 returns-then-level-eq0 c =
     let read : element_at c.args.bytes.now c.loop-h.i ≡ Whole c.in-Whole.h = sym c.element_at.ensures ∙ c.in-Whole.is in
-    sym (pass_ends _ _ _ _ read _ c.nested_by-level.ensures c.if-level-eq0.true) ∙ c.loop-h.inv.1
+    sym (pass_ends _ _ _ _ read _ c.nested_by-level.ensures c.if-level-eq0.true) ∙ c.loop-h.invariant.1
 
 pub loop-h-smaller : goal.loop-h-smaller
 loop-h-smaller c =
@@ -38,5 +38,5 @@ pub loop-h-preserved : goal.loop-h-preserved
 loop-h-preserved c =
     let read : element_at c.args.bytes.now c.loop-h.i ≡ Whole c.in-Whole.h = sym c.element_at.ensures ∙ c.in-Whole.is in (
       omega (arith, element_on _ _ _ read, nested_le c.in-Whole.h.kind c.loop-h.level),
-      sym (pass_goes _ _ _ _ read _ c.nested_by-level.ensures c.if-level-eq0.false) ∙ c.loop-h.inv.1,
+      sym (pass_goes _ _ _ _ read _ c.nested_by-level.ensures c.if-level-eq0.false) ∙ c.loop-h.invariant.1,
     )
