@@ -23,7 +23,7 @@ step-done-requires c = (
       (
         omega (arith, c.loop-from.invariant.5, c.requires.buffer_len_bound),
         (
-          omega (arith, c.gather-got.auto.1.1.0, c.loop-from.invariant.6, c.requires.line_len_bound),
+          omega (arith, c.gather-got.auto.line, c.loop-from.invariant.6, c.requires.line_len_bound),
           (c.loop-from.invariant.8, omega (arith, c.loop-from.invariant.7, c.requires.longest_in_bounds)),
         ),
       ),
@@ -40,14 +40,14 @@ loop-from-smaller-then-got c =
 
 pub loop-from-preserved-then-got : goal.loop-from-preserved-then-got
 loop-from-preserved-then-got c = (
-  c.step-done.kept.1.0 ∙ c.loop-from.invariant.0,
-  c.step-done.kept.1.1.0 ∙ c.loop-from.invariant.1,
-  c.step-done.kept.1.1.1.0 ∙ c.loop-from.invariant.2,
-  c.step-done.kept.1.1.1.1.0 ∙ c.loop-from.invariant.3,
-  c.step-done.kept.1.1.1.1.1.0 ∙ c.loop-from.invariant.4,
-  c.step-done.kept.1.1.1.1.1.1.0 ∙ c.loop-from.invariant.5,
-  c.step-done.kept.1.1.1.1.1.1.1.0 ∙ c.gather-got.kept.1.1.0 ∙ c.loop-from.invariant.6,
-  c.step-done.kept.1.1.1.1.1.1.1.1.1.0 ∙ c.loop-from.invariant.7,
+  c.step-done.auto.keys ∙ c.loop-from.invariant.0,
+  c.step-done.auto.times ∙ c.loop-from.invariant.1,
+  c.step-done.auto.fields ∙ c.loop-from.invariant.2,
+  c.step-done.auto.records ∙ c.loop-from.invariant.3,
+  c.step-done.auto.words ∙ c.loop-from.invariant.4,
+  c.step-done.auto.buffer ∙ c.loop-from.invariant.5,
+  c.step-done.auto.line ∙ c.gather-got.auto.line ∙ c.loop-from.invariant.6,
+  c.step-done.auto.out ∙ c.loop-from.invariant.7,
   c.step-done.ensures,
 )
 
@@ -60,7 +60,7 @@ loop-from-smaller c =
 
 pub loop-from-preserved : goal.loop-from-preserved
 loop-from-preserved c =
-    (c.loop-from.invariant.0, c.loop-from.invariant.1, c.loop-from.invariant.2, c.loop-from.invariant.3, c.loop-from.invariant.4, c.loop-from.invariant.5, c.gather-got.kept.1.1.0 ∙ c.loop-from.invariant.6, c.loop-from.invariant.7, c.loop-from.invariant.8)
+    (c.loop-from.invariant.0, c.loop-from.invariant.1, c.loop-from.invariant.2, c.loop-from.invariant.3, c.loop-from.invariant.4, c.loop-from.invariant.5, c.gather-got.auto.line ∙ c.loop-from.invariant.6, c.loop-from.invariant.7, c.loop-from.invariant.8)
 
 pub shape_of-keys : goal.shape_of-keys
 shape_of-keys c =

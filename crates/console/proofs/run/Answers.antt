@@ -41,15 +41,15 @@ loop-turns-smaller c =
 
 pub loop-turns-preserved : goal.loop-turns-preserved
 loop-turns-preserved c = (
-  c.feed-fed.kept.1.0 ∙ c.loop-turns.invariant.0,
-  c.feed-fed.kept.1.1.0 ∙ c.loop-turns.invariant.1,
-  c.feed-fed.kept.1.1.1.0 ∙ c.loop-turns.invariant.2,
-  c.feed-fed.kept.1.1.1.1.0 ∙ c.loop-turns.invariant.3,
-  c.feed-fed.kept.1.1.1.1.1.0 ∙ c.loop-turns.invariant.4,
-  c.feed-fed.kept.1.1.1.1.1.1.0 ∙ c.loop-turns.invariant.5,
-  c.feed-fed.kept.1.1.1.1.1.1.1.0 ∙ c.loop-turns.invariant.6,
-  c.read_part-got.kept.0 ∙ c.loop-turns.invariant.7,
-  omega (arith, c.feed-fed.kept.1.1.1.1.1.1.1.1.1.1.0, c.loop-turns.invariant.8),
+  c.feed-fed.auto.keys ∙ c.loop-turns.invariant.0,
+  c.feed-fed.auto.times ∙ c.loop-turns.invariant.1,
+  c.feed-fed.auto.fields ∙ c.loop-turns.invariant.2,
+  c.feed-fed.auto.records ∙ c.loop-turns.invariant.3,
+  c.feed-fed.auto.words ∙ c.loop-turns.invariant.4,
+  c.feed-fed.auto.buffer ∙ c.loop-turns.invariant.5,
+  c.feed-fed.auto.line ∙ c.loop-turns.invariant.6,
+  c.read_part-got.auto.chunk ∙ c.loop-turns.invariant.7,
+  omega (arith, c.feed-fed.auto.out, c.loop-turns.invariant.8),
 )
 
 pub shape_of-keys-then-failed : goal.shape_of-keys-then-failed

@@ -19,7 +19,7 @@ returns-then-held-line c =
     let a = c.args in
     ran_whole a.machine a.keys.now a.times.now a.fields.now a.records.now a.words.now a.buffer.now a.line.now
     a.held a.out.now a.at _ _
-    {c = left} c.run_line.ensures refl (omega (arith, c.run_line.kept.1.1.1.1.1.1.0, c.requires.buffer_len_bound)) c.if-held-line.true
+    {c = left} c.run_line.ensures refl (omega (arith, c.run_line.auto.buffer, c.requires.buffer_len_bound)) c.if-held-line.true
     c.requires.line_len_bound c.requires.keys_len_bound c.requires.records_len_bound c.requires.words_len_bound c.requires.longest_in_bounds
 
 pub returns : goal.returns

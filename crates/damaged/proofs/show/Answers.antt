@@ -5,7 +5,7 @@ use Rattle.damaged.proofs.show.Goals as goal
 
 pub shape_of-keys : goal.shape_of-keys
 shape_of-keys c =
-    c.make-done.auto.fields ∙ c.fill_words.auto.1.1.0
+    c.make-done.auto.fields ∙ c.fill_words.auto.words
 
 pub shape_of-times : goal.shape_of-times
 shape_of-times c =
@@ -13,8 +13,8 @@ shape_of-times c =
 
 pub shape_of-fields : goal.shape_of-fields
 shape_of-fields c =
-    c.make-done.auto.1.1.1.1.0 ∙ c.fill_fields.auto.1.0
+    c.make-done.auto.fields ∙ c.fill_fields.auto.fields
 
 pub shape_of-records : goal.shape_of-records
 shape_of-records c =
-    c.make-done.auto.1.1.1.1.1.0 ∙ c.fill_words-2.auto.1.1.0
+    c.make-done.auto.records ∙ c.fill_words-2.auto.words

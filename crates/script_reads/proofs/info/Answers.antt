@@ -15,7 +15,7 @@ returns c =
     let came : Table = let a = c.args in
     table_of a.state a.keys.now a.times.now a.fields.now a.records.now in
     let t = came in
-    let single = eqb (value_at c.args.t6.values 2) 1 in
+    let single = eqb (value_at c.args.read.values 2) 1 in
     informed-done _ _ _ _ _ _ _ _ _ _ c.info_tail.ensures
     (◌∙◌ {b = read_fabric_scene_info c.byte-fabric.result c.short-endpoint.result single t} c.read_fabric_scene_info-row.ensures
     (λ i. read_fabric_scene_info (c.byte-fabric.ensures i) (c.short-endpoint.ensures i) single t))

@@ -51,7 +51,7 @@ loop-i-preserved-then-holds c =
     let made : Copied = copied_of c.copy_entry-done.result.status (entries_of c.copy_entry-done.result.state c.copy_entry-done.new.keys c.copy_entry-done.new.times c.copy_entry-done.new.fields) in
     let made_by : (let e = entries_of c.loop-i.state c.loop-i.keys c.loop-i.times c.loop-i.fields in made ≡ copy_entry c.loop-i.i (key_in c.args.to (get_or c.loop-i.keys c.loop-i.i 0)) e) = c.copy_entry-done.ensures ∙ named c.args.to c.loop-i.i _ _ c.scene_of.ensures in
     step c.loop-i.invariant c.loop-i-test.true (sym c.holds.ensures ∙ c.if-holds.true)
-    {o = made} made_by c.if-status-ne-SUCCESS.false (record { keys = c.copy_entry-done.kept.1.0; times = c.copy_entry-done.kept.1.1.0; fields = c.copy_entry-done.kept.1.1.1.0 })
+    {o = made} made_by c.if-status-ne-SUCCESS.false (record { keys = c.copy_entry-done.auto.keys; times = c.copy_entry-done.auto.times; fields = c.copy_entry-done.auto.fields })
 
 pub loop-i-preserved : goal.loop-i-preserved
 loop-i-preserved c =

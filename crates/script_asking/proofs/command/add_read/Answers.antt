@@ -17,7 +17,7 @@ returns c =
     table_of a.asking.state a.keys.now a.times.now a.fields.now a.records.now in
     let held : Groups = let a = c.args in
     groups_of a.asking.groups a.words.now in
-    ◌∙◌ {c = add_read_asked c.args.t8.values (bytes_at c.args.t8 c.args.line.now 6) (bytes_at c.args.t8 c.args.line.now 7) held came} (plain_done _ _ _ _ _ _
+    ◌∙◌ {c = add_read_asked c.args.read.values (bytes_at c.args.read c.args.line.now 6) (bytes_at c.args.read c.args.line.now 7) held came} (plain_done _ _ _ _ _ _
     (add_read_asking c.scene_key-key.result c.long-time.result c.part-pairs.result.now c.part-bytes.result.now held came)
     c.plain.ensures c.add_scene_read.ensures)
     (λ i. plain (add_read_asking (c.scene_key-key.ensures i) (c.long-time.ensures i) (c.part-pairs.ensures i) (c.part-bytes.ensures i) held came))

@@ -26,7 +26,7 @@ enum_known-word-in-Wrong-1 c =
 
 pub shape_of-line-in-Wrong : goal.shape_of-line-in-Wrong
 shape_of-line-in-Wrong c =
-    c.read_next-got.kept.0 ∙ c.loop-i.invariant.0
+    c.read_next-got.auto.line ∙ c.loop-i.invariant.0
 
 pub returns-in-Wrong : goal.returns-in-Wrong
 returns-in-Wrong c =
@@ -36,11 +36,11 @@ returns-in-Wrong c =
     record {
       says =
           ap (λ (v : Verdict). verdict_says v c.empty.result c.read_next-got.new.line) c.empty.ensures
-          ∙ sym (words-wrong _ _ _ c.loop-i.values c.loop-i.starts c.loop-i.line c.loop-i.at c.loop-i.i _ _ _ l c.read_next-got.ensures h c.read_next-got.kept.0 c.loop-i.invariant.5 _ c.in-Wrong.is)
+          ∙ sym (words-wrong _ _ _ c.loop-i.values c.loop-i.starts c.loop-i.line c.loop-i.at c.loop-i.i _ _ _ l c.read_next-got.ensures h c.read_next-got.auto.line c.loop-i.invariant.5 _ c.in-Wrong.is)
           ∙ ap (λ (ks : List Kind). words_say a.trace a.letter ks (drop a.start a.line.now)) c.kinds_of-kinds.ensures;
       line =
           sym (c.loop-i.invariant.6 ∙ left-wrong _ a.letter _ c.loop-i.values c.loop-i.starts c.loop-i.line c.loop-i.at c.loop-i.i [] _ _ l c.read_next-got.ensures h
-          c.read_next-got.kept.0 _ c.in-Wrong.is)
+          c.read_next-got.auto.line _ c.in-Wrong.is)
           ∙ ap (λ (ks : List Kind). take a.start a.line.now ++ words_left a.trace ks (drop a.start a.line.now)) c.kinds_of-kinds.ensures;
     }
 
@@ -48,16 +48,16 @@ pub loop-i-preserved : goal.loop-i-preserved
 loop-i-preserved c =
     let h : c.loop-i.at ≤ length c.loop-i.line = omega (arith, c.loop-i.invariant.0, c.loop-i.invariant.1) in
     let l : c.loop-i.i < length c.kinds_of-kinds.result = let k = ap length c.kinds_of-kinds.ensures ∙ kinds_length _ in omega arith in
-    let within = reads-within _ _ _ _ _ _ c.read_next-got.ensures h c.read_next-got.kept.0 in (
-      c.read_next-got.kept.0 ∙ c.loop-i.invariant.0,
+    let within = reads-within _ _ _ _ _ _ c.read_next-got.ensures h c.read_next-got.auto.line in (
+      c.read_next-got.auto.line ∙ c.loop-i.invariant.0,
       omega (arith, within, c.loop-i.invariant.0),
       simp length-set c.loop-i.invariant.2,
       simp length-set c.loop-i.invariant.3,
       omega arith,
-      words_more _ _ _ c.loop-i.values c.loop-i.starts c.loop-i.line c.loop-i.at c.loop-i.i _ _ _ l c.read_next-got.ensures h c.read_next-got.kept.0 c.loop-i.invariant.5 _
+      words_more _ _ _ c.loop-i.values c.loop-i.starts c.loop-i.line c.loop-i.at c.loop-i.i _ _ _ l c.read_next-got.ensures h c.read_next-got.auto.line c.loop-i.invariant.5 _
           c.in-Value.is (omega arith) (omega arith),
       c.loop-i.invariant.6
-          ∙ left_more _ c.args.letter _ c.loop-i.values c.loop-i.starts c.loop-i.line c.loop-i.at c.loop-i.i [] _ _ l c.read_next-got.ensures h c.read_next-got.kept.0 _
+          ∙ left_more _ c.args.letter _ c.loop-i.values c.loop-i.starts c.loop-i.line c.loop-i.at c.loop-i.i [] _ _ l c.read_next-got.ensures h c.read_next-got.auto.line _
           c.in-Value.is,
     )
 

@@ -20,7 +20,7 @@ loop-i-init c =
 
 pub overflow_cast-digit : goal.overflow_cast-digit
 overflow_cast-digit c =
-    omega (arith, c.digit_value-digit.type-inv)
+    omega (arith, c.digit_value-digit.type_inv)
 
 pub returns-then-digit-gt9 : goal.returns-then-digit-gt9
 returns-then-digit-gt9 c =
