@@ -1,12 +1,12 @@
 -- The turns of a pass over lent records (`specs/Pass.antt`) lead to what the call answers (`specs/Notice.antt`). Assumes nothing.
 --     Runs answer p l     from the pass p, over the records l, turns of the loop lead to the answer
 --     runs                so they do from the start
-use mathlib.Core.Path.{◌≡◌, refl, sym, ap, subst}
-use Prim.Native.Nat.{ℕ, zero, suc, ◌+◌, ◌<◌, ◌≤◌}
+use mathlib.Core.Path.{◌≡◌, refl, sym, ap, subst, ◌∙◌}
+use Prim.Native.Nat.{ℕ, zero, suc, ◌+◌, ◌-◌, ◌<◌, ◌≤◌}
 use native.Mathlib.Nat.{not-suc-le-zero, le_of_suc-le-suc}
 use native.Mathlib.Numerals.{add-one}
 use native.Mathlib.Omega.{arith}
-use mathlib.Core.Bool.{Bool, true, false, cond, ◌&&◌}
+use mathlib.Core.Bool.{Bool, true, false, cond, ◌&&◌, false≢true}
 use mathlib.Core.List.{List, [], ◌∷◌, ◌++◌, map}
 use lib.Dec.{eqb, ltb}
 use lib.ListN.{length, set, take, drop}
@@ -27,6 +27,36 @@ pub data Runs (answer : Answer) : Pass → List CurrentScene → Type 0 where
   over : (p : Pass) (l : List CurrentScene) → ltb p.at p.state.recorded ≡ false → answer_of (outcome_of p) l ≡ answer → Runs answer p l
   turn : (p : Pass) (l : List CurrentScene) → p.at < p.state.recorded → p.at < length l
       → Runs answer (visit p (record_at l p.at)).pass (set l p.at (visit p (record_at l p.at)).«record») → Runs answer p l
+
+-- before the count a turn leads on, and from there on the answer stands
+pub runs_on : {answer : Answer} {p : Pass} {l : List CurrentScene} → Runs answer p l → p.at < p.state.recorded
+    → (p.at < length l) × Runs answer (visit p (record_at l p.at)).pass (set l p.at (visit p (record_at l p.at)).«record»)
+runs_on (over p l e answered) h = absurd (false≢true (sym e ∙ lt-ltb _ _ h))
+runs_on (turn p l h k r) _ = (k, r)
+
+pub runs_end : {answer : Answer} {p : Pass} {l : List CurrentScene} → Runs answer p l → p.state.recorded ≤ p.at → answer_of (outcome_of p) l ≡ answer
+runs_end (over p l e answered) h = answered
+runs_end (turn p l k _ _) h = absurd (omega arith)
+
+-- how many turns are left at most: those of this round, and those of the second while the first runs
+abbrev pub left_of : Pass → ℕ
+left_of p = (p.state.recorded - p.at) + cond p.clears 0 p.state.recorded
+
+-- a pass in its first round, at a record: whether it has no fabric, and whether one follows
+looked_fewer : (p : Pass) (a b : Bool) → p.at < p.state.recorded
+    → left_of (cond a (pass_of p.state p.endpoint unsound false p.changed p.state.recorded)
+    (cond b (pass_of p.state p.endpoint p.status false p.changed (p.at + 1)) (pass_of p.state p.endpoint p.status true p.changed 0)))
+    < (p.state.recorded - p.at) + p.state.recorded
+looked_fewer p true b h = omega arith
+looked_fewer p false true h = omega arith
+looked_fewer p false false h = omega arith
+
+pub fewer : (p : Pass) (c : CurrentScene) → p.at < p.state.recorded → left_of (visit p c).pass < left_of p
+fewer p c h =
+    (elim p.clears as (λ b. p.clears ≡ b → left_of (visit p c).pass < left_of p) [
+      | true ↦ λ e. rw e (omega arith)
+      | false ↦ λ e. rw e (looked_fewer p (eqb c.fab_idx 0) (ltb (p.at + 1) p.state.recorded) h)
+    ]) refl
 
 -- ---- the records, where the first i are noticed
 module _ (e : ℕ) where

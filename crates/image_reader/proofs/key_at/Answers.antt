@@ -1,5 +1,6 @@
 -- `image_reader::key_at` meets its contract. Assumes nothing.
 use Prim.Native.Nat.{ℕ, ◌<◌}
+use mathlib.Core.List.{List}
 use mathlib.Core.Path.{◌≡◌, sym, ◌∙◌}
 use native.Mathlib.Omega.{arith}
 use lib.ListN.{get_or}
@@ -11,6 +12,10 @@ use Rattle.tlv.proofs.Says.{u8_under, u16_under}
 use Rattle.image_reader.specs.Places.{key_at}
 use borrow.Author.Rules.{rules}
 use Rattle.image_reader.proofs.key_at.Goals as goal
+
+-- what stands at the place of a tag
+abbrev Said : List ℕ → List ℕ → ℕ → ℕ → ℕ → Type 0
+Said bytes places tag most v = number_at most bytes (get_or places tag 0) ≡ Value v
 
 record Parts (f e g s : ℕ) : Type 0 where
   fabric : f < 256
@@ -26,29 +31,29 @@ returns-in_default c =
 pub returns-then-fabric-eq0 : goal.returns-then-fabric-eq0
 unfolding key_at
 returns-then-fabric-eq0 c =
-    let fabric : Said 0 u8_type c c.in-Value.fabric = sym c.number_at.ensures ∙ c.in-Value.is in
+    let fabric : Said c.args.bytes.now c.args.places 0 u8_type c.in-Value.fabric = sym c.number_at.ensures ∙ c.in-Value.is in
     rw (fabric, eq-eqb _ _ c.if-fabric-eq0.true)
 
 pub returns-in_default-number_at : goal.returns-in_default-number_at
 unfolding key_at
 returns-in_default-number_at c =
-    let fabric : Said 0 u8_type c c.in-Value.fabric = sym c.number_at.ensures ∙ c.in-Value.is in
+    let fabric : Said c.args.bytes.now c.args.places 0 u8_type c.in-Value.fabric = sym c.number_at.ensures ∙ c.in-Value.is in
     rw (fabric, ne_eqb _ _ c.if-fabric-eq0.false, sym c.number_at-2.ensures ∙ c.in_default-number_at.is)
 
 pub returns-in_default-number_at-2 : goal.returns-in_default-number_at-2
 unfolding key_at
 returns-in_default-number_at-2 c =
-    let fabric : Said 0 u8_type c c.in-Value.fabric = sym c.number_at.ensures ∙ c.in-Value.is in
-    let endpoint : Said 1 u16_type c c.in-Value-number_at.endpoint = sym c.number_at-2.ensures ∙ c.in-Value-number_at.is in
+    let fabric : Said c.args.bytes.now c.args.places 0 u8_type c.in-Value.fabric = sym c.number_at.ensures ∙ c.in-Value.is in
+    let endpoint : Said c.args.bytes.now c.args.places 1 u16_type c.in-Value-number_at.endpoint = sym c.number_at-2.ensures ∙ c.in-Value-number_at.is in
     let fabric-other : c.in-Value.fabric ≡ 0 → ⊥ = c.if-fabric-eq0.false in
     rw (fabric, ne_eqb _ _ fabric-other, endpoint, sym c.number_at-3.ensures ∙ c.in_default-number_at-2.is)
 
 pub returns-in_default-number_at-3 : goal.returns-in_default-number_at-3
 unfolding key_at
 returns-in_default-number_at-3 c =
-    let fabric : Said 0 u8_type c c.in-Value.fabric = sym c.number_at.ensures ∙ c.in-Value.is in
-    let endpoint : Said 1 u16_type c c.in-Value-number_at.endpoint = sym c.number_at-2.ensures ∙ c.in-Value-number_at.is in
-    let group : Said 2 u16_type c c.in-Value-number_at-2.group = sym c.number_at-3.ensures ∙ c.in-Value-number_at-2.is in
+    let fabric : Said c.args.bytes.now c.args.places 0 u8_type c.in-Value.fabric = sym c.number_at.ensures ∙ c.in-Value.is in
+    let endpoint : Said c.args.bytes.now c.args.places 1 u16_type c.in-Value-number_at.endpoint = sym c.number_at-2.ensures ∙ c.in-Value-number_at.is in
+    let group : Said c.args.bytes.now c.args.places 2 u16_type c.in-Value-number_at-2.group = sym c.number_at-3.ensures ∙ c.in-Value-number_at-2.is in
     let fabric-other : c.in-Value.fabric ≡ 0 → ⊥ = c.if-fabric-eq0.false in
     rw (
       fabric,
@@ -60,10 +65,10 @@ returns-in_default-number_at-3 c =
 
 pub overflow_mul-result : goal.overflow_mul-result
 overflow_mul-result c =
-    let fabric : Said 0 u8_type c c.in-Value.fabric = sym c.number_at.ensures ∙ c.in-Value.is in
-    let endpoint : Said 1 u16_type c c.in-Value-number_at.endpoint = sym c.number_at-2.ensures ∙ c.in-Value-number_at.is in
-    let group : Said 2 u16_type c c.in-Value-number_at-2.group = sym c.number_at-3.ensures ∙ c.in-Value-number_at-2.is in
-    let scene : Said 3 u8_type c c.in-Value-number_at-3.scene = sym c.number_at-4.ensures ∙ c.in-Value-number_at-3.is in
+    let fabric : Said c.args.bytes.now c.args.places 0 u8_type c.in-Value.fabric = sym c.number_at.ensures ∙ c.in-Value.is in
+    let endpoint : Said c.args.bytes.now c.args.places 1 u16_type c.in-Value-number_at.endpoint = sym c.number_at-2.ensures ∙ c.in-Value-number_at.is in
+    let group : Said c.args.bytes.now c.args.places 2 u16_type c.in-Value-number_at-2.group = sym c.number_at-3.ensures ∙ c.in-Value-number_at-2.is in
+    let scene : Said c.args.bytes.now c.args.places 3 u8_type c.in-Value-number_at-3.scene = sym c.number_at-4.ensures ∙ c.in-Value-number_at-3.is in
     let bytes_below : (i : ℕ) → get_or c.args.bytes.now i 0 < 256 = λ i. (c.shared_slice_known-1.given i).fits in
     let parts : Parts c.in-Value.fabric c.in-Value-number_at.endpoint c.in-Value-number_at-2.group c.in-Value-number_at-3.scene = let below = bytes_below in
     record {
@@ -76,10 +81,10 @@ overflow_mul-result c =
 
 pub overflow_mul-result-2 : goal.overflow_mul-result-2
 overflow_mul-result-2 c =
-    let fabric : Said 0 u8_type c c.in-Value.fabric = sym c.number_at.ensures ∙ c.in-Value.is in
-    let endpoint : Said 1 u16_type c c.in-Value-number_at.endpoint = sym c.number_at-2.ensures ∙ c.in-Value-number_at.is in
-    let group : Said 2 u16_type c c.in-Value-number_at-2.group = sym c.number_at-3.ensures ∙ c.in-Value-number_at-2.is in
-    let scene : Said 3 u8_type c c.in-Value-number_at-3.scene = sym c.number_at-4.ensures ∙ c.in-Value-number_at-3.is in
+    let fabric : Said c.args.bytes.now c.args.places 0 u8_type c.in-Value.fabric = sym c.number_at.ensures ∙ c.in-Value.is in
+    let endpoint : Said c.args.bytes.now c.args.places 1 u16_type c.in-Value-number_at.endpoint = sym c.number_at-2.ensures ∙ c.in-Value-number_at.is in
+    let group : Said c.args.bytes.now c.args.places 2 u16_type c.in-Value-number_at-2.group = sym c.number_at-3.ensures ∙ c.in-Value-number_at-2.is in
+    let scene : Said c.args.bytes.now c.args.places 3 u8_type c.in-Value-number_at-3.scene = sym c.number_at-4.ensures ∙ c.in-Value-number_at-3.is in
     let bytes_below : (i : ℕ) → get_or c.args.bytes.now i 0 < 256 = λ i. (c.shared_slice_known-1.given i).fits in
     let parts : Parts c.in-Value.fabric c.in-Value-number_at.endpoint c.in-Value-number_at-2.group c.in-Value-number_at-3.scene = let below = bytes_below in
     record {
@@ -92,10 +97,10 @@ overflow_mul-result-2 c =
 
 pub overflow_add-result : goal.overflow_add-result
 overflow_add-result c =
-    let fabric : Said 0 u8_type c c.in-Value.fabric = sym c.number_at.ensures ∙ c.in-Value.is in
-    let endpoint : Said 1 u16_type c c.in-Value-number_at.endpoint = sym c.number_at-2.ensures ∙ c.in-Value-number_at.is in
-    let group : Said 2 u16_type c c.in-Value-number_at-2.group = sym c.number_at-3.ensures ∙ c.in-Value-number_at-2.is in
-    let scene : Said 3 u8_type c c.in-Value-number_at-3.scene = sym c.number_at-4.ensures ∙ c.in-Value-number_at-3.is in
+    let fabric : Said c.args.bytes.now c.args.places 0 u8_type c.in-Value.fabric = sym c.number_at.ensures ∙ c.in-Value.is in
+    let endpoint : Said c.args.bytes.now c.args.places 1 u16_type c.in-Value-number_at.endpoint = sym c.number_at-2.ensures ∙ c.in-Value-number_at.is in
+    let group : Said c.args.bytes.now c.args.places 2 u16_type c.in-Value-number_at-2.group = sym c.number_at-3.ensures ∙ c.in-Value-number_at-2.is in
+    let scene : Said c.args.bytes.now c.args.places 3 u8_type c.in-Value-number_at-3.scene = sym c.number_at-4.ensures ∙ c.in-Value-number_at-3.is in
     let bytes_below : (i : ℕ) → get_or c.args.bytes.now i 0 < 256 = λ i. (c.shared_slice_known-1.given i).fits in
     let parts : Parts c.in-Value.fabric c.in-Value-number_at.endpoint c.in-Value-number_at-2.group c.in-Value-number_at-3.scene = let below = bytes_below in
     record {
@@ -108,10 +113,10 @@ overflow_add-result c =
 
 pub overflow_mul-result-3 : goal.overflow_mul-result-3
 overflow_mul-result-3 c =
-    let fabric : Said 0 u8_type c c.in-Value.fabric = sym c.number_at.ensures ∙ c.in-Value.is in
-    let endpoint : Said 1 u16_type c c.in-Value-number_at.endpoint = sym c.number_at-2.ensures ∙ c.in-Value-number_at.is in
-    let group : Said 2 u16_type c c.in-Value-number_at-2.group = sym c.number_at-3.ensures ∙ c.in-Value-number_at-2.is in
-    let scene : Said 3 u8_type c c.in-Value-number_at-3.scene = sym c.number_at-4.ensures ∙ c.in-Value-number_at-3.is in
+    let fabric : Said c.args.bytes.now c.args.places 0 u8_type c.in-Value.fabric = sym c.number_at.ensures ∙ c.in-Value.is in
+    let endpoint : Said c.args.bytes.now c.args.places 1 u16_type c.in-Value-number_at.endpoint = sym c.number_at-2.ensures ∙ c.in-Value-number_at.is in
+    let group : Said c.args.bytes.now c.args.places 2 u16_type c.in-Value-number_at-2.group = sym c.number_at-3.ensures ∙ c.in-Value-number_at-2.is in
+    let scene : Said c.args.bytes.now c.args.places 3 u8_type c.in-Value-number_at-3.scene = sym c.number_at-4.ensures ∙ c.in-Value-number_at-3.is in
     let bytes_below : (i : ℕ) → get_or c.args.bytes.now i 0 < 256 = λ i. (c.shared_slice_known-1.given i).fits in
     let parts : Parts c.in-Value.fabric c.in-Value-number_at.endpoint c.in-Value-number_at-2.group c.in-Value-number_at-3.scene = let below = bytes_below in
     record {
@@ -124,10 +129,10 @@ overflow_mul-result-3 c =
 
 pub overflow_add-result-2 : goal.overflow_add-result-2
 overflow_add-result-2 c =
-    let fabric : Said 0 u8_type c c.in-Value.fabric = sym c.number_at.ensures ∙ c.in-Value.is in
-    let endpoint : Said 1 u16_type c c.in-Value-number_at.endpoint = sym c.number_at-2.ensures ∙ c.in-Value-number_at.is in
-    let group : Said 2 u16_type c c.in-Value-number_at-2.group = sym c.number_at-3.ensures ∙ c.in-Value-number_at-2.is in
-    let scene : Said 3 u8_type c c.in-Value-number_at-3.scene = sym c.number_at-4.ensures ∙ c.in-Value-number_at-3.is in
+    let fabric : Said c.args.bytes.now c.args.places 0 u8_type c.in-Value.fabric = sym c.number_at.ensures ∙ c.in-Value.is in
+    let endpoint : Said c.args.bytes.now c.args.places 1 u16_type c.in-Value-number_at.endpoint = sym c.number_at-2.ensures ∙ c.in-Value-number_at.is in
+    let group : Said c.args.bytes.now c.args.places 2 u16_type c.in-Value-number_at-2.group = sym c.number_at-3.ensures ∙ c.in-Value-number_at-2.is in
+    let scene : Said c.args.bytes.now c.args.places 3 u8_type c.in-Value-number_at-3.scene = sym c.number_at-4.ensures ∙ c.in-Value-number_at-3.is in
     let bytes_below : (i : ℕ) → get_or c.args.bytes.now i 0 < 256 = λ i. (c.shared_slice_known-1.given i).fits in
     let parts : Parts c.in-Value.fabric c.in-Value-number_at.endpoint c.in-Value-number_at-2.group c.in-Value-number_at-3.scene = let below = bytes_below in
     record {
@@ -140,10 +145,10 @@ overflow_add-result-2 c =
 
 pub overflow_add-result-3 : goal.overflow_add-result-3
 overflow_add-result-3 c =
-    let fabric : Said 0 u8_type c c.in-Value.fabric = sym c.number_at.ensures ∙ c.in-Value.is in
-    let endpoint : Said 1 u16_type c c.in-Value-number_at.endpoint = sym c.number_at-2.ensures ∙ c.in-Value-number_at.is in
-    let group : Said 2 u16_type c c.in-Value-number_at-2.group = sym c.number_at-3.ensures ∙ c.in-Value-number_at-2.is in
-    let scene : Said 3 u8_type c c.in-Value-number_at-3.scene = sym c.number_at-4.ensures ∙ c.in-Value-number_at-3.is in
+    let fabric : Said c.args.bytes.now c.args.places 0 u8_type c.in-Value.fabric = sym c.number_at.ensures ∙ c.in-Value.is in
+    let endpoint : Said c.args.bytes.now c.args.places 1 u16_type c.in-Value-number_at.endpoint = sym c.number_at-2.ensures ∙ c.in-Value-number_at.is in
+    let group : Said c.args.bytes.now c.args.places 2 u16_type c.in-Value-number_at-2.group = sym c.number_at-3.ensures ∙ c.in-Value-number_at-2.is in
+    let scene : Said c.args.bytes.now c.args.places 3 u8_type c.in-Value-number_at-3.scene = sym c.number_at-4.ensures ∙ c.in-Value-number_at-3.is in
     let bytes_below : (i : ℕ) → get_or c.args.bytes.now i 0 < 256 = λ i. (c.shared_slice_known-1.given i).fits in
     let parts : Parts c.in-Value.fabric c.in-Value-number_at.endpoint c.in-Value-number_at-2.group c.in-Value-number_at-3.scene = let below = bytes_below in
     record {
@@ -157,9 +162,9 @@ overflow_add-result-3 c =
 pub returns : goal.returns
 unfolding key_at
 returns c =
-    let fabric : Said 0 u8_type c c.in-Value.fabric = sym c.number_at.ensures ∙ c.in-Value.is in
-    let endpoint : Said 1 u16_type c c.in-Value-number_at.endpoint = sym c.number_at-2.ensures ∙ c.in-Value-number_at.is in
-    let group : Said 2 u16_type c c.in-Value-number_at-2.group = sym c.number_at-3.ensures ∙ c.in-Value-number_at-2.is in
-    let scene : Said 3 u8_type c c.in-Value-number_at-3.scene = sym c.number_at-4.ensures ∙ c.in-Value-number_at-3.is in
+    let fabric : Said c.args.bytes.now c.args.places 0 u8_type c.in-Value.fabric = sym c.number_at.ensures ∙ c.in-Value.is in
+    let endpoint : Said c.args.bytes.now c.args.places 1 u16_type c.in-Value-number_at.endpoint = sym c.number_at-2.ensures ∙ c.in-Value-number_at.is in
+    let group : Said c.args.bytes.now c.args.places 2 u16_type c.in-Value-number_at-2.group = sym c.number_at-3.ensures ∙ c.in-Value-number_at-2.is in
+    let scene : Said c.args.bytes.now c.args.places 3 u8_type c.in-Value-number_at-3.scene = sym c.number_at-4.ensures ∙ c.in-Value-number_at-3.is in
     let fabric-other : c.in-Value.fabric ≡ 0 → ⊥ = c.if-fabric-eq0.false in
     rw (fabric, ne_eqb _ _ fabric-other, endpoint, group, scene)

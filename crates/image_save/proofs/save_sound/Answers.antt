@@ -16,16 +16,15 @@ pub image_len-requires : goal.image_len-requires
 image_len-requires c =
     let came : Table = table_of c.args.state c.args.keys.now c.args.times.now c.args.fields.now c.args.records.now in
     let b = sound_bounds came c.requires in
-    let l = sound-lengths came c.requires in (
-      omega (arith, b.most, b.entries),
-      (
-        omega (arith, b.keys, b.entries),
-        (
-          omega (arith, b.times, b.entries),
-          (omega (arith, b.fields, b.entries), (l, (omega (arith, b.most, b.recorded), omega (arith, b.recorded, b.records)))),
-        ),
-      ),
-    )
+    record {
+      entries_le_max_scenes = omega (arith, b.most, b.entries);
+      entries_in_bounds = omega (arith, b.keys, b.entries);
+      entries_in_bounds_2 = omega (arith, b.times, b.entries);
+      stride_in_bounds = omega (arith, b.fields, b.entries);
+      entries_value = sound-lengths came c.requires;
+      recorded_le_max_scenes = omega (arith, b.most, b.recorded);
+      recorded_in_bounds = omega (arith, b.recorded, b.records);
+    }
 
 pub returns-then-buffer-image_len : goal.returns-then-buffer-image_len
 returns-then-buffer-image_len c =
@@ -37,10 +36,14 @@ returns-then-buffer-image_len c =
 pub put_image-len-requires : goal.put_image-len-requires
 put_image-len-requires c =
     let came : Table = table_of c.args.state c.args.keys.now c.args.times.now c.args.fields.now c.args.records.now in
-    let b = sound_bounds came c.requires in (
-      omega (arith, b.keys, b.entries),
-      (omega (arith, b.times, b.entries), (omega (arith, b.fields, b.entries), (sound-lengths came c.requires, omega (arith, b.recorded, b.records)))),
-    )
+    let b = sound_bounds came c.requires in
+    record {
+      entries_in_bounds = omega (arith, b.keys, b.entries);
+      entries_in_bounds_2 = omega (arith, b.times, b.entries);
+      stride_in_bounds = omega (arith, b.fields, b.entries);
+      entries_value = sound-lengths came c.requires;
+      recorded_in_bounds = omega (arith, b.recorded, b.records);
+    }
 
 pub returns : goal.returns
 returns c =

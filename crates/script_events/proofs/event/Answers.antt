@@ -1,4 +1,5 @@
 -- `script_events::event` meets its contract. Assumes nothing.
+use native.Mathlib.Omega.{arith}
 use mathlib.Core.Path.{◌∙◌}
 use borrow.Author.Tests.{ne_eqb}
 use Rattle.state.specs.Table.{Table, table_of}
@@ -37,5 +38,5 @@ unfolding event
 returns-in_default c =
     let came : Table = let a = c.args in
     table_of a.state a.keys.now a.times.now a.fields.now a.records.now in
-    rw (ne_eqb _ _ c.in-84.rest.0.0.1, ne_eqb _ _ c.in-84.rest.0.1)
+    rw (ne_eqb c.args.read.letter 84 (omega arith), ne_eqb c.args.read.letter 85 (omega arith))
     (plain_done _ _ _ _ _ _ (fail_safe came) c.plain-in_default.ensures c.fail_safe_expiry.ensures)

@@ -1,4 +1,5 @@
 -- `script_reads::query` meets its contract. Assumes nothing.
+use native.Mathlib.Omega.{arith}
 use borrow.Author.Tests.{ne_eqb}
 use Rattle.script_answers.specs.Done.{called_of}
 use Rattle.script_reads.specs.Reads.{query}
@@ -23,5 +24,5 @@ returns-in-77 c =
 pub returns-in_default : goal.returns-in_default
 unfolding query
 returns-in_default c =
-    rw (ne_eqb _ _ c.in-86.rest.0.0.1, ne_eqb _ _ c.in-86.rest.0.1, ne_eqb _ _ c.in-86.rest.1)
+    rw (ne_eqb c.args.read.letter 86 (omega arith), ne_eqb c.args.read.letter 76 (omega arith), ne_eqb c.args.read.letter 77 (omega arith))
     (λ i. called_of (c.info.ensures i) c.args.buffer.now)

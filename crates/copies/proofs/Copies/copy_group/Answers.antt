@@ -15,7 +15,7 @@ use Rattle.state.specs.Table.{Entries, entries_of, EntryRoom}
 use Rattle.copies.specs.Copy.{Copied, copied_of, copy_entry, key_in, copy_walk}
 use Rattle.copies.proofs.Laws.{Kept, copy-kept, walk_start, walk_end, walk_skip, walk_stop, walk_step}
 use Rattle.copies.proofs.Copies.copy_group.Goals as goal
-use Rattle.copies.proofs.Copies.copy_group.Invariants.{keys_of, named, Turn, skip}
+use Rattle.copies.proofs.Copies.copy_group.Invariants.{keys_of, named, Turn, skip, kept, step, stop}
 
 pub loop-i-init : goal.loop-i-init
 loop-i-init c =

@@ -44,10 +44,10 @@ module _ {to : GroupKey} {n : ℕ} {r : KeyRange} {e₀ : Entries} {s₀ : ℕ} 
 
   -- the entry at i is a source, and o what its copy makes
   module _ (q : within r (get_or e.slots.keys i 0) ≡ true) {o : Copied} (w : o ≡ copy_entry i (key_in to (get_or e.slots.keys i 0)) e) where
-    kept : Kept e o.entries
+    pub kept : Kept e o.entries
     kept = subst⁻¹ (λ (u : Copied). Kept e u.entries) w (copy-kept i (key_in to (get_or e.slots.keys i 0)) e t.room (omega arith))
 
-    step : o.status ≡ success → SameLengths o.entries.slots e.slots → Turn to n r e₀ s₀ o.entries o.status (i + 1)
+    pub step : o.status ≡ success → SameLengths o.entries.slots e.slots → Turn to n r e₀ s₀ o.entries o.status (i + 1)
     step z l = record {
       reached = omega arith;
       room = kept.room;
@@ -57,7 +57,7 @@ module _ {to : GroupKey} {n : ℕ} {r : KeyRange} {e₀ : Entries} {s₀ : ℕ} 
           sym (walk_step from to n i s e o h (ap (λ (k : KeyRange). within k (get_or e.slots.keys i 0)) (sym x) ∙ q) w z) ∙ t.walk from x;
     }
 
-    stop : (o.status ≡ success → ⊥) → (from : GroupKey) → r ≡ keys_of from → o ≡ copy_walk from to n 0 s₀ e₀
+    pub stop : (o.status ≡ success → ⊥) → (from : GroupKey) → r ≡ keys_of from → o ≡ copy_walk from to n 0 s₀ e₀
     stop z from x =
         sym (walk_stop from to n i s e o h (ap (λ (k : KeyRange). within k (get_or e.slots.keys i 0)) (sym x) ∙ q) w z) ∙ t.walk from x
 

@@ -1,4 +1,5 @@
 -- `script_asking::command::asked_command` meets its contract. Assumes nothing.
+use native.Mathlib.Omega.{arith}
 use borrow.Author.Tests.{ne_eqb}
 use Rattle.script_asking.specs.Asked.{asked_command}
 use borrow.Author.Rules.{rules}
@@ -32,5 +33,5 @@ returns-in-88 c =
 pub returns-in_default : goal.returns-in_default
 unfolding asked_command
 returns-in_default c =
-    rw (ne_eqb _ _ c.in-65.rest.0.0.0.0.1, ne_eqb _ _ c.in-65.rest.0.0.0.1, ne_eqb _ _ c.in-65.rest.0.0.1, ne_eqb _ _ c.in-65.rest.0.1, ne_eqb _ _ c.in-65.rest.1)
+    rw (ne_eqb c.args.read.letter 65 (omega arith), ne_eqb c.args.read.letter 66 (omega arith), ne_eqb c.args.read.letter 83 (omega arith), ne_eqb c.args.read.letter 82 (omega arith), ne_eqb c.args.read.letter 88 (omega arith))
     c.copy.ensures

@@ -1,4 +1,5 @@
 -- `script_asking::query::asked_query` meets its contract. Assumes nothing.
+use native.Mathlib.Omega.{arith}
 use borrow.Author.Tests.{ne_eqb}
 use Rattle.script_answers.specs.Done.{called_of}
 use Rattle.script_asking.specs.Asked.{asked_query}
@@ -18,4 +19,4 @@ returns-in-76 c =
 pub returns-in_default : goal.returns-in_default
 unfolding asked_query
 returns-in_default c =
-    rw (ne_eqb _ _ c.in-86.rest.0.1, ne_eqb _ _ c.in-86.rest.1) c.list_in.ensures
+    rw (ne_eqb c.args.read.letter 86 (omega arith), ne_eqb c.args.read.letter 76 (omega arith)) c.list_in.ensures

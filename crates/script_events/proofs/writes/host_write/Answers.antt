@@ -1,4 +1,5 @@
 -- `script_events::writes::host_write` meets its contract. Assumes nothing.
+use native.Mathlib.Omega.{arith}
 use borrow.Author.Tests.{ne_eqb}
 use Rattle.script_events.specs.Writes.{host_write}
 use borrow.Author.Rules.{rules}
@@ -17,4 +18,4 @@ returns-in-101 c =
 pub returns-in_default : goal.returns-in_default
 unfolding host_write
 returns-in_default c =
-    rw (ne_eqb _ _ c.in-75.rest.0.1, ne_eqb _ _ c.in-75.rest.1) (c.push_record.ensures _ _ _)
+    rw (ne_eqb c.args.read.letter 75 (omega arith), ne_eqb c.args.read.letter 101 (omega arith)) (c.push_record.ensures _ _ _)

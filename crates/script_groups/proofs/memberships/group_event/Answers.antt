@@ -1,4 +1,5 @@
 -- `script_groups::memberships::group_event` meets its contract. Assumes nothing.
+use native.Mathlib.Omega.{arith}
 use borrow.Author.Tests.{ne_eqb}
 use Rattle.script_groups.specs.Memberships.{group_event}
 use borrow.Author.Rules.{rules}
@@ -32,5 +33,5 @@ returns-in-70 c =
 pub returns-in_default : goal.returns-in_default
 unfolding group_event
 returns-in_default c =
-    rw (ne_eqb _ _ c.in-74.rest.0.0.0.0.1, ne_eqb _ _ c.in-74.rest.0.0.0.1, ne_eqb _ _ c.in-74.rest.0.0.1, ne_eqb _ _ c.in-74.rest.0.1, ne_eqb _ _ c.in-74.rest.1)
+    rw (ne_eqb c.args.read.letter 74 (omega arith), ne_eqb c.args.read.letter 81 (omega arith), ne_eqb c.args.read.letter 72 (omega arith), ne_eqb c.args.read.letter 109 (omega arith), ne_eqb c.args.read.letter 70 (omega arith))
     c.reset.ensures

@@ -1,5 +1,6 @@
 -- `script_lines::reader::kinds_of` meets its contract. Assumes nothing.
 use mathlib.Core.Logic.{⊎_elim, inl, inr}
+use native.Mathlib.Omega.{arith}
 use borrow.Author.Tests.{ne_eqb}
 use Rattle.script_lines.specs.Lines.{one_of, kinds_of}
 use borrow.Author.Rules.{rules}
@@ -99,27 +100,27 @@ pub returns-in_default : goal.returns-in_default
 unfolding kinds_of one_of
 returns-in_default c =
     rw (
-      ne_eqb _ _ c.in-78.rest.0.0.0.0.0.0.0.0.0.0.0.0.0.0.0.0.0.1,
-      ne_eqb _ _ c.in-78.rest.0.0.0.0.0.0.0.0.0.0.0.0.0.0.0.0.1,
-      ne_eqb _ _ c.in-78.rest.0.0.0.0.0.0.0.0.0.0.0.0.0.0.0.1,
-      ne_eqb _ _ c.in-78.rest.0.0.0.0.0.0.0.0.0.0.0.0.0.0.1,
-      ne_eqb _ 86 (λ e. c.in-78.rest.0.0.0.0.0.0.0.0.0.0.0.0.0.1 (inr e)),
-      ne_eqb _ 82 (λ e. c.in-78.rest.0.0.0.0.0.0.0.0.0.0.0.0.0.1 (inl e)),
-      ne_eqb _ _ c.in-78.rest.0.0.0.0.0.0.0.0.0.0.0.0.1,
-      ne_eqb _ _ c.in-78.rest.0.0.0.0.0.0.0.0.0.0.0.1,
-      ne_eqb _ _ c.in-78.rest.0.0.0.0.0.0.0.0.0.0.1,
-      ne_eqb _ _ c.in-78.rest.0.0.0.0.0.0.0.0.0.1,
-      ne_eqb _ _ c.in-78.rest.0.0.0.0.0.0.0.0.1,
-      ne_eqb _ _ c.in-78.rest.0.0.0.0.0.0.0.1,
-      ne_eqb _ _ c.in-78.rest.0.0.0.0.0.0.1,
-      ne_eqb _ _ c.in-78.rest.0.0.0.0.0.1,
-      ne_eqb _ _ c.in-78.rest.0.0.0.0.1,
-      ne_eqb _ 71 (λ e. c.in-78.rest.0.0.0.1 (inl e)),
-      ne_eqb _ 89 (λ e. c.in-78.rest.0.0.0.1 (inr e)),
-      ne_eqb _ _ c.in-78.rest.0.0.1,
-      ne_eqb _ _ c.in-78.rest.0.1,
-      ne_eqb _ 74 (λ e. c.in-78.rest.1 (inr (inl e))),
-      ne_eqb _ 81 (λ e. c.in-78.rest.1 (inr (inr (inl e)))),
-      ne_eqb _ 72 (λ e. c.in-78.rest.1 (inl e)),
-      ne_eqb _ 109 (λ e. c.in-78.rest.1 (inr (inr (inr e)))),
+      ne_eqb c.args.letter 78 (omega arith),
+      ne_eqb c.args.letter 65 (omega arith),
+      ne_eqb c.args.letter 66 (omega arith),
+      ne_eqb c.args.letter 83 (omega arith),
+      ne_eqb c.args.letter 86 (omega arith),
+      ne_eqb c.args.letter 82 (omega arith),
+      ne_eqb c.args.letter 88 (omega arith),
+      ne_eqb c.args.letter 67 (omega arith),
+      ne_eqb c.args.letter 76 (omega arith),
+      ne_eqb c.args.letter 77 (omega arith),
+      ne_eqb c.args.letter 73 (omega arith),
+      ne_eqb c.args.letter 84 (omega arith),
+      ne_eqb c.args.letter 70 (omega arith),
+      ne_eqb c.args.letter 75 (omega arith),
+      ne_eqb c.args.letter 80 (omega arith),
+      ne_eqb c.args.letter 71 (omega arith),
+      ne_eqb c.args.letter 89 (omega arith),
+      ne_eqb c.args.letter 101 (omega arith),
+      ne_eqb c.args.letter 114 (omega arith),
+      ne_eqb c.args.letter 74 (omega arith),
+      ne_eqb c.args.letter 81 (omega arith),
+      ne_eqb c.args.letter 72 (omega arith),
+      ne_eqb c.args.letter 109 (omega arith),
     )

@@ -16,14 +16,6 @@ unfolding positions
 loop-i-init c =
     (refl, c.requires, refl, refl, omega arith, λ later q. words-start _ _ _ [] [] later _, refl)
 
-pub enum_known-word : goal.enum_known-word
-enum_known-word c =
-    c.in-Value.keys1
-
-pub enum_known-word-in-Wrong-1 : goal.enum_known-word-in-Wrong-1
-enum_known-word-in-Wrong-1 c =
-    c.in-Value.keys2
-
 pub shape_of-line-in-Wrong : goal.shape_of-line-in-Wrong
 shape_of-line-in-Wrong c =
     c.read_next-got.auto.line ∙ c.loop-i.invariant.0
