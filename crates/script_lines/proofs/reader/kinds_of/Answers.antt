@@ -1,9 +1,9 @@
 -- `script_lines::reader::kinds_of` meets its contract. Assumes nothing.
 use mathlib.Core.Logic.{⊎_elim, inl, inr}
-use native.Mathlib.Omega.{arith}
 use borrow.Author.Tests.{ne_eqb}
 use Rattle.script_lines.specs.Lines.{one_of, kinds_of}
 use borrow.Author.Rules.{rules}
+use borrow.Author.Tests.{tests}
 use Rattle.script_lines.proofs.reader.kinds_of.Goals as goal
 
 pub returns-in-78 : goal.returns-in-78
@@ -98,29 +98,4 @@ returns-in-74 c =
 
 pub returns-in_default : goal.returns-in_default
 unfolding kinds_of one_of
-returns-in_default c =
-    rw (
-      ne_eqb c.args.letter 78 (omega arith),
-      ne_eqb c.args.letter 65 (omega arith),
-      ne_eqb c.args.letter 66 (omega arith),
-      ne_eqb c.args.letter 83 (omega arith),
-      ne_eqb c.args.letter 86 (omega arith),
-      ne_eqb c.args.letter 82 (omega arith),
-      ne_eqb c.args.letter 88 (omega arith),
-      ne_eqb c.args.letter 67 (omega arith),
-      ne_eqb c.args.letter 76 (omega arith),
-      ne_eqb c.args.letter 77 (omega arith),
-      ne_eqb c.args.letter 73 (omega arith),
-      ne_eqb c.args.letter 84 (omega arith),
-      ne_eqb c.args.letter 70 (omega arith),
-      ne_eqb c.args.letter 75 (omega arith),
-      ne_eqb c.args.letter 80 (omega arith),
-      ne_eqb c.args.letter 71 (omega arith),
-      ne_eqb c.args.letter 89 (omega arith),
-      ne_eqb c.args.letter 101 (omega arith),
-      ne_eqb c.args.letter 114 (omega arith),
-      ne_eqb c.args.letter 74 (omega arith),
-      ne_eqb c.args.letter 81 (omega arith),
-      ne_eqb c.args.letter 72 (omega arith),
-      ne_eqb c.args.letter 109 (omega arith),
-    )
+returns-in_default c = search (tests, rules)
