@@ -234,7 +234,8 @@ module _ (laws : Laws) (f : ℕ) (f1 : 1 ≤ f) (f255 : f ≤ 255) (Pair : Table
     unfolding remembered
     current_remembered v n =
         let go : (b : Bool) → find (of_fabric f) (cond b (put (of_fabric f) (valid_record key) v.records) v.records) ≡ cond b (some (valid_record key)) none =
-        λ b. elim b [ true ↦ put-current key fine own_key v.records | false ↦ n ] in
+        λ b. elim b as (λ b. find (of_fabric f) (cond b (put (of_fabric f) (valid_record key) v.records) v.records) ≡ cond b (some (valid_record key)) none)
+        [ true ↦ put-current key fine own_key v.records | false ↦ n ] in
         ap (λ (b : Bool). find (of_fabric f) (cond (b || record_fits_in v) (put (of_fabric f) (valid_record key) v.records) v.records)) (ap found n) ∙ go (record_fits_in v)
 
     stored : (t : Table) → Standing t → (m : Membership) → member_gate g m ≡ 0 → current_in f (view_of t) ≡ none → place_for f (word_of key) (view_of t) ≡ true

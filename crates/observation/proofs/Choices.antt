@@ -85,7 +85,7 @@ module _ {A : Type 0} where
 
   pub length_put_has : (h : A → Bool) (x : A) (ys : List A) → length (put h x ys) + bit (has h ys) ≡ length ys + 1
   length_put_has h x ys =
-      let o : (z : Option A) → opt (λ _. true) z ≡ bit (found z) = λ z. elim z [ none ↦ refl | some y ↦ refl ] in
+      let o : (z : Option A) → opt (λ _. true) z ≡ bit (found z) = λ z. elim z as (λ z. opt {A = A} (λ _. true) z ≡ bit (found z)) [ none ↦ refl | some y ↦ refl ] in
       omega (arith, length-count (put h x ys), length-count ys, count-put (λ _. true) h x ys, o (find h ys))
 
   pub less_take_out : (h : A → Bool) (xs : List A) → length (take_out h xs) ≤ length xs

@@ -32,7 +32,7 @@ module _ {A : Type 0} where
   count_or p q h [] = refl
   count_or p q h (x ∷ xs) =
       let go : (b : Bool) → p x ≡ b → bit (b || q x) ≡ bit b + bit (q x) =
-      λ b. elim b [ true ↦ λ e. rw (h x e) refl | false ↦ λ e. omega arith ] in
+      λ b. elim b as (λ b. p x ≡ b → bit (b || q x) ≡ bit b + bit (q x)) [ true ↦ λ e. rw (h x e) refl | false ↦ λ e. omega arith ] in
       omega (arith, go (p x) refl, count_or p q h xs)
 
   -- ---- two lists in a row
@@ -117,7 +117,7 @@ module _ {A : Type 0} where
   find_one h q y same [] once one = absurd (omega arith)
   find_one h q y same (x ∷ xs) once one =
       let less : count (λ z. h z && q z) xs ≤ count h xs = count_le (λ z. h z && q z) h (λ z e. (both (h z) (q z) e).0) xs in
-      let is : (c : Bool) → q x ≡ c → 1 ≤ bit c → c ≡ true = λ c. elim c [ true ↦ λ e l. refl | false ↦ λ e l. absurd (omega arith) ] in
+      let is : (c : Bool) → q x ≡ c → 1 ≤ bit c → c ≡ true = λ c. elim c as (λ c. q x ≡ c → 1 ≤ bit c → c ≡ true) [ true ↦ λ e l. refl | false ↦ λ e l. absurd (omega arith) ] in
       (elim (h x) as (λ b. bit b + count h xs ≤ 1 → 1 ≤ bit (b && q x) + count (λ z. h z && q z) xs → cond b (some x) (find h xs) ≡ some y)
       [ true ↦ λ o₁ o₂. ap some (same x (is (q x) refl (omega arith))) | false ↦ λ o₁ o₂. find_one h q y same xs (omega arith) (omega arith) ]) once one
 

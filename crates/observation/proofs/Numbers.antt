@@ -323,7 +323,7 @@ unfolding copy_scene
 copy-numbers c m n t =
     let Q : Membership → Membership → ℕ → Type 0 = λ x y. Among (0 ∷ 1 ∷ 6 ∷ 0x85 ∷ 0x87 ∷ 0x89 ∷ 0x8B ∷ failing x ++ failing y) in
     let P = Q m n in
-    let target : (x : Membership) → Q x Failed membership_failed = λ x. elim x [ Yes ↦ refl | No ↦ refl | Failed ↦ refl ] in
+    let target : (x : Membership) → Q x Failed membership_failed = λ x. elim x as (λ x. Q x Failed membership_failed) [ Yes ↦ refl | No ↦ refl | Failed ↦ refl ] in
     guarded_is P refl (λ (r : Result). r.status) (refused t) (λ k. refl) t _ _ refl
     (copy_gate_is P refl refl refl refl m (two (λ x. Q x n) refl) c n (two (Q m) (target m)))
     (inner_is P refl refl refl c t)

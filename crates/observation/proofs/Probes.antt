@@ -107,7 +107,7 @@ counts f (x ∷ es) et g g' same q w =
           omega (arith, counts f es et' rest (take_out_good (key_is k) et g') others q w, c q)
       | false ↦ λ m.
           let out : (n : ℕ) → fabric_of n ≡ f → eqb k n ≡ false = λ n h. ne_eqb k n (λ e. eqb-false (fabric_of k) f m (ap fabric_of e ∙ h)) in
-          let nq : (b : Bool) → q x ≡ b → bit b ≡ 0 = λ b. elim b [ true ↦ λ e. absurd (false≢true (sym m ∙ w x e)) | false ↦ λ _. refl ] in
+          let nq : (b : Bool) → q x ≡ b → bit b ≡ 0 = λ b. elim b as (λ b. q x ≡ b → bit b ≡ 0) [ true ↦ λ e. absurd (false≢true (sym m ∙ w x e)) | false ↦ λ _. refl ] in
           omega (arith, nq (q x) refl, counts f es et rest g' (λ n h. sym (skip n (out n h)) ∙ same n h) q w)
     ]) refl
 
@@ -170,13 +170,13 @@ module _ (f e : ℕ) (v : View) where
       go (some w) = rw (and_false (eqb n 0)) (h n (remaining_in f v) (some w))
 
   pub info-group : get_or (info_out f e v).values 1 0 ≡ told (λ w. group_of (key_of_record w)) (current_in f v)
-  info-group = info_at 1 (λ w. group_of (key_of_record w)) (λ m left o. elim o [ none ↦ refl | some w ↦ refl ])
+  info-group = info_at 1 (λ w. group_of (key_of_record w)) (λ m left o. elim o as (λ o. get_or (row m left f o) 1 0 ≡ told (λ w. group_of (key_of_record w)) o) [ none ↦ refl | some w ↦ refl ])
 
   pub info-scene : get_or (info_out f e v).values 2 0 ≡ told (λ w. scene_of (key_of_record w)) (current_in f v)
-  info-scene = info_at 2 (λ w. scene_of (key_of_record w)) (λ m left o. elim o [ none ↦ refl | some w ↦ refl ])
+  info-scene = info_at 2 (λ w. scene_of (key_of_record w)) (λ m left o. elim o as (λ o. get_or (row m left f o) 2 0 ≡ told (λ w. scene_of (key_of_record w)) o) [ none ↦ refl | some w ↦ refl ])
 
   pub info-valid : get_or (info_out f e v).values 3 0 ≡ told (λ w. bit (is_valid w)) (current_in f v)
-  info-valid = info_at 3 (λ w. bit (is_valid w)) (λ m left o. elim o [ none ↦ refl | some w ↦ refl ])
+  info-valid = info_at 3 (λ w. bit (is_valid w)) (λ m left o. elim o as (λ o. get_or (row m left f o) 3 0 ≡ told (λ w. bit (is_valid w)) o) [ none ↦ refl | some w ↦ refl ])
 
 -- a record has a scene other than 0
 pub scene_one : (f : ℕ) (v : View) → Inv v → (w : ℕ) → current_in f v ≡ some w → 1 ≤ scene_of (key_of_record w)

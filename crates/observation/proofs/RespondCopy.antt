@@ -124,7 +124,7 @@ module _ (f e mode g h r : ℕ) (hf : f < 2 ^ 8) (he : e < 2 ^ 16) (hg : g < 2 ^
 
 first_fine : (h : SceneEntry → Bool) (es : List SceneEntry) → count bad es ≡ 0 → count bad (first (find h es)) ≡ 0
 first_fine h es z =
-    let o : (y : Option SceneEntry) → count bad (first y) ≡ opt bad y = λ y. elim y [ none ↦ refl | some x ↦ omega arith ] in
+    let o : (y : Option SceneEntry) → count bad (first y) ≡ opt bad y = λ y. elim y as (λ y. count bad (first y) ≡ opt bad y) [ none ↦ refl | some x ↦ omega arith ] in
     omega (arith, o (find h es), count_take_out bad h es)
 
 sources_fine : (f e mode g s : ℕ) (v : View) → Inv v → count bad (sources f e mode g s v) ≡ 0

@@ -4,7 +4,7 @@ use Prim.Native.Nat.{ℕ, ◌≤◌}
 use native.Mathlib.Omega.{arith}
 use mathlib.Core.Path.{◌≡◌, ap, ◌∙◌}
 use mathlib.Core.Bool.{Bool, false}
-use mathlib.Core.List.{List, ◌∷◌, Memᴰ}
+use mathlib.Core.List.{List, [], ◌∷◌, Memᴰ}
 use lib.Dec.{eqb}
 use borrow.Author.Tests.{eqb-false}
 use Rattle.words.specs.Words.{scene_of, key_of_record}
@@ -29,6 +29,7 @@ demand3 f s t f1 f255 rs rt z m =
 -- ---- reached tables
 
 pub none_passes : {A : Type 0} (p : A → Bool) (xs : List A) → count p xs ≡ 0 → (x : A) → Memᴰ x xs → p x ≡ false
+none_passes {A = A} p [] z x m = elim m [ ]
 none_passes p (y ∷ ys) z x (Memᴰ.head e) = ap p e ∙ bit_zero (p y) (omega arith)
 none_passes p (y ∷ ys) z x (Memᴰ.tail m) = none_passes p ys (omega arith) x m
 

@@ -20,5 +20,5 @@ returns c =
     let came : ScenesState → Table = λ state. let a = c.args in
     table_of state a.keys.now a.times.now a.fields.now a.records.now in
     let a = c.args in
-    in_front_lem (λ b. save b (came a.state)) (value_at a.t7.values 0) a.buffer.now _
+    in_front_lem (λ b. save b (came a.state)) (value_at a.read.values 0) a.buffer.now _
     (done_of c.save.result (came c.save.result.state)) _ c.least-n.ensures c.save.ensures

@@ -32,7 +32,7 @@ returns-then-read-eq68 c =
     session a.machine a.keys.now a.times.now a.fields.now a.records.now a.words.now a.buffer.now a.line.now
     (sheet a.out.now a.at) in
     let told : (let a = c.args in
-    half_asking a.t11.letter a.t11.values ≡ false) = sym c.asks_half.ensures ∙ c.if-asks_half.false in
+    half_asking a.read.letter a.read.values ≡ false) = sym c.asks_half.ensures ∙ c.if-asks_half.false in
     let s = came in
     ended s.machine _ _ _ _ _ _ _ _ (dump_lines (groups_in s) (table_in s)) _ _ _ _ c.dumped.ensures
     ∙ obeys_table _ _ _ s c.if-read-eq78.false told c.if-machine.true c.if-read-eq68.true
@@ -43,9 +43,9 @@ returns-then-read-eq89 c =
     session a.machine a.keys.now a.times.now a.fields.now a.records.now a.words.now a.buffer.now a.line.now
     (sheet a.out.now a.at) in
     let told : (let a = c.args in
-    half_asking a.t11.letter a.t11.values ≡ false) = sym c.asks_half.ensures ∙ c.if-asks_half.false in
+    half_asking a.read.letter a.read.values ≡ false) = sym c.asks_half.ensures ∙ c.if-asks_half.false in
     let a = c.args in
-    let bytes = bytes_at a.t11 a.line.now 0 in
+    let bytes = bytes_at a.read a.line.now 0 in
     ended a.machine _ _ _ _ _ _ _ _ (sets_line a.machine.trace a.machine.state bytes) _ _ _ _ c.parsed.ensures
     ∙ obeys_sets _ _ _ came c.if-read-eq78.false told c.if-machine.true c.if-read-eq68.false c.if-read-eq89.true
 
@@ -55,14 +55,14 @@ returns-then-machine c =
     session a.machine a.keys.now a.times.now a.fields.now a.records.now a.words.now a.buffer.now a.line.now
     (sheet a.out.now a.at) in
     let told : (let a = c.args in
-    half_asking a.t11.letter a.t11.values ≡ false) = sym c.asks_half.ensures ∙ c.if-asks_half.false in
+    half_asking a.read.letter a.read.values ≡ false) = sym c.asks_half.ensures ∙ c.if-asks_half.false in
     let left : Session = session c.called.result.machine c.called.new.keys c.called.new.times c.called.new.fields c.called.new.records c.called.new.words c.called.new.buffer
     came.line (sheet c.called.new.out c.called.result.at) in
     let a = c.args in
-    let bytes = bytes_at a.t11 a.line.now in
+    let bytes = bytes_at a.read a.line.now in
     let s = came in
-    ◌∙◌ {a = left} {b = called a.t11.letter a.t11.values bytes s} c.called.ensures
-    (obeys_call a.t11.letter a.t11.values bytes s c.if-read-eq78.false told c.if-machine.true c.if-read-eq68.false
+    ◌∙◌ {a = left} {b = called a.read.letter a.read.values bytes s} c.called.ensures
+    (obeys_call a.read.letter a.read.values bytes s c.if-read-eq78.false told c.if-machine.true c.if-read-eq68.false
     c.if-read-eq89.false)
 
 pub returns : goal.returns
@@ -71,6 +71,6 @@ returns c =
     session a.machine a.keys.now a.times.now a.fields.now a.records.now a.words.now a.buffer.now a.line.now
     (sheet a.out.now a.at) in
     let told : (let a = c.args in
-    half_asking a.t11.letter a.t11.values ≡ false) = sym c.asks_half.ensures ∙ c.if-asks_half.false in
+    half_asking a.read.letter a.read.values ≡ false) = sym c.asks_half.ensures ∙ c.if-asks_half.false in
     ended c.args.machine _ _ _ _ _ _ _ _ _ _ _ _ _ c.wrong-2.ensures
     ∙ obeys_none _ _ _ came c.if-read-eq78.false told c.if-machine.false

@@ -17,7 +17,8 @@ use Rattle.script_events.proofs.writes.push_entry.Goals as goal
 
 pub put-requires : goal.put-requires
 put-requires c =
-    entry-room _ _ _ _ _ _ c.entry_fits.ensures c.if-entry_fits.true
+    let room = entry-room _ _ _ _ _ _ c.entry_fits.ensures c.if-entry_fits.true in
+    record { ext_len_bound = room.0; at_in_bounds = room.1.0; at_in_bounds_2 = room.1.1.0; stride_in_bounds = room.1.1.1 }
 
 pub overflow_add-state : goal.overflow_add-state
 overflow_add-state c =
@@ -34,15 +35,15 @@ returns-then-entry_fits c =
     {b = put_slot a.state.entries c.word.result c.long-time.result c.part-ext.result.now s} c.put.ensures
     (λ i. put_slot a.state.entries ((c.word.ensures ∙ ap word_of c.scene_key-key.ensures) i) (c.long-time.ensures i)
     (c.part-ext.ensures i) s) in
-    ap (λ (c : Answer). done_of c (table_of c.state c.put.new.keys c.put.new.times c.put.new.fields w)) c.raw.ensures
+    ap (λ (x : Answer). done_of x (table_of x.state c.put.new.keys c.put.new.times c.put.new.fields w)) c.raw.ensures
     ∙ (λ i. raw success (record { state = with_entry_count (a.state.entries + 1) a.state; slots = slots i; records = w }))
-    ∙ entry_pushed a.t6.values _ _ (entry_test _ _ a.t6.values c.scene_key-key.ensures _
-    (bytes_at a.t6 a.line.now 5) c.part-ext.ensures _ _ _ _ _ c.entry_fits.ensures c.if-entry_fits.true)
+    ∙ entry_pushed a.read.values _ _ (entry_test _ _ a.read.values c.scene_key-key.ensures _
+    (bytes_at a.read a.line.now 5) c.part-ext.ensures _ _ _ _ _ c.entry_fits.ensures c.if-entry_fits.true)
 
 pub returns : goal.returns
 returns c =
     λ w.
     let a = c.args in
     ap (λ (x : Answer). done_of x (table_of x.state a.keys.now a.times.now a.fields.now w)) c.raw-2.ensures
-    ∙ entry-refused a.t6.values _ _ (entry_test _ _ a.t6.values c.scene_key-key.ensures _ _ c.part-ext.ensures _ _ _ _ _
+    ∙ entry-refused a.read.values _ _ (entry_test _ _ a.read.values c.scene_key-key.ensures _ _ c.part-ext.ensures _ _ _ _ _
     c.entry_fits.ensures c.if-entry_fits.false)

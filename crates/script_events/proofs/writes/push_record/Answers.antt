@@ -37,7 +37,7 @@ pub returns-then-record_fits : goal.returns-then-record_fits
 returns-then-record_fits c =
     λ k₀ t f.
     let a = c.args in
-    let values = a.t3.values in
+    let values = a.read.values in
     ap (λ (x : Answer). done_of x (table_of x.state k₀ t f (set a.records.now a.state.recorded c.record_word-word.result)))
     c.raw.ensures
     ∙ (λ i. raw success (with_current (append_record ((c.record_word-word.ensures ∙ ap (λ (x : SceneKey). record_word x (value_at values 4))
@@ -49,5 +49,5 @@ returns c =
     λ k₀ t f.
     let a = c.args in
     ap (λ (x : Answer). done_of x (table_of x.state k₀ t f a.records.now)) c.raw-2.ensures
-    ∙ record_refused a.t3.values _ (record_test _ _ a.t3.values c.scene_key-key.ensures _ _ _ c.record_fits.ensures
+    ∙ record_refused a.read.values _ (record_test _ _ a.read.values c.scene_key-key.ensures _ _ _ c.record_fits.ensures
     c.if-record_fits.false)

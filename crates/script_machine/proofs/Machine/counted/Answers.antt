@@ -9,4 +9,4 @@ numbered m n = record { state = m.state; groups = m.groups; present = m.present;
 
 pub returns : goal.returns
 returns c =
-    ap (numbered c.args.self) c.wrapping_add_u64.ensures
+    ap (numbered c.args.self) c.wrapping_add_u64.ensures.value
