@@ -256,10 +256,13 @@ module _ (laws : Laws) (f : ℕ) (f1 : 1 ≤ f) (f255 : f ≤ 255) (Pair : Table
         let r = (records (next (command f e (storing m)) s) (next (command f e (storing m)) t) o.2).scene in
         let part : Option ℕ → ℕ = told (λ w. scene_of (key_of_record w)) in
         let scene : (b : Bool) → part (cond b (some (valid_record key)) none) ≡ cond b sc 0 =
-        λ b. elim b [ true ↦ ap scene_of (record_key (word_of key) fine.small) ∙ key-scene f e g sc lt he hg hs | false ↦ refl ] in
+        λ b. elim b as (λ b. part (cond b (some (valid_record key)) none) ≡ cond b sc 0) [ true ↦ ap scene_of (record_key (word_of key) fine.small) ∙ key-scene f e g sc lt he hg hs | false ↦ refl ] in
         let one : 1 ≤ sc = omega (arith, eqb-false sc 0 (or_none (eqb sc 0) (eqb sc 255) plain).0) in
         let same : (b c : Bool) → cond b sc 0 ≡ cond c sc 0 → b ≡ c =
-        λ b. elim b [ true ↦ λ c. elim c [ true ↦ λ _. refl | false ↦ λ q. absurd (omega arith) ] | false ↦ λ c. elim c [ true ↦ λ q. absurd (omega arith) | false ↦ λ _. refl ] ] in
+        λ b. elim b as (λ b. (c : Bool) → cond b sc 0 ≡ cond c sc 0 → b ≡ c) [
+          | true ↦ λ c. elim c as (λ c. sc ≡ cond c sc 0 → true ≡ c) [ true ↦ λ _. refl | false ↦ λ q. absurd (omega arith) ]
+          | false ↦ λ c. elim c as (λ c. 0 ≡ cond c sc 0 → false ≡ c) [ true ↦ λ q. absurd (omega arith) | false ↦ λ _. refl ]
+        ] in
         same (record_fits_in (view_of s)) (record_fits_in (view_of t))
         (sym (scene (record_fits_in (view_of s))) ∙ ap part (sym (stored s (lists.left p) m o.1 ns ps)) ∙ r ∙ ap part (stored t (lists.right p) m o.1 nt pt) ∙ scene (record_fits_in (view_of t)))
 
