@@ -1,4 +1,4 @@
-/* The calls of a scene table without the test of the table, for hosts in C: those of libhost_unchecked.a, which `rt staticlib host_unchecked`
+/* The calls of a scene table without the test of the table, for hosts in C: those of libhost_unchecked.a, which `bash prove host_unchecked`
  * builds, and an add by raw field bytes, of libhost_fields.a. A host links libhost.a besides, since a table is made and tested by its calls.
  *
  * The calls of scenes.h are what a host takes first. Each of them tests the whole table before anything else, and answers 6 where it is not
