@@ -14,7 +14,7 @@
  *   - A table of which scenes_is_sound said true is sound.
  *   - Each call, checked or not, a load among them, leaves a sound table sound, whatever it answers, if the head that it hands back is kept.
  *
- * The first and the third are proved: `new-sound` and `stays-sound` in crates/observation/proofs/Owned.antt, with their statements in
+ * The first and the third are proved: `new-sound` and `stays_sound` in crates/observation/proofs/Owned.antt, with their statements in
  * crates/observation/specs/Owned.antt. So both kinds of calls may be made on one table, in any order.
  *
  * What is given up: memory that a stray write has damaged is no longer noticed. If the table is not sound, nothing fixes what an unchecked call
