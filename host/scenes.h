@@ -1,5 +1,5 @@
-/* The scene table of Scenes Management, for hosts in C: the calls of libhost.a, which `rt staticlib host` builds, and three on raw field
- * bytes, of libhost_fields.a, which `rt staticlib host_fields` builds. A host that lists the pairs of its adds itself needs the first alone.
+/* The scene table of Scenes Management, for hosts in C: the calls of libhost.a, which `bash prove host` builds, and three on raw field
+ * bytes, of libhost_fields.a, which `bash prove host_fields` builds. A host that lists the pairs of its adds itself needs the first alone.
  * scenes_unchecked.h has the calls of a table without the test that answers 6, for a host whose table nobody else can write; scenes_groups.h has
  * memberships that are held beside the table, and the commands that ask them, for a host without a group cluster.
  *

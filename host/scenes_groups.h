@@ -1,5 +1,5 @@
 /* Memberships that are held beside a scene table, for hosts in C that have no group cluster: the calls of libhost_groups.a, which
- * `rt staticlib host_groups` builds. A host links libhost.a besides, since a table is made by its calls; libhost_fields.a only for its calls.
+ * `bash prove host_groups` builds. A host links libhost.a besides, since a table is made by its calls; libhost_fields.a only for its calls.
  *
  * A membership is a fabric, an endpoint and a group. They are a head, `held`, which goes in by value and comes back in the answers of the calls
  * that may change it, and an array of words that the host owns and lends:

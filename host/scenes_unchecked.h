@@ -1,4 +1,4 @@
-/* The calls of a scene table without the test of the table, for hosts in C: those of libhost_unchecked.a, which `rt staticlib host_unchecked`
+/* The calls of a scene table without the test of the table, for hosts in C: those of libhost_unchecked.a, which `bash prove host_unchecked`
  * builds, and an add by raw field bytes, of libhost_fields.a. A host links libhost.a besides, since a table is made and tested by its calls.
  *
  * The calls of scenes.h are what a host takes first. Each of them tests the whole table before anything else, and answers 6 where it is not
@@ -14,7 +14,7 @@
  *   - A table of which scenes_is_sound said true is sound.
  *   - Each call, checked or not, a load among them, leaves a sound table sound, whatever it answers, if the head that it hands back is kept.
  *
- * The first and the third are proved: `new-sound` and `stays-sound` in crates/observation/proofs/Owned.antt, with their statements in
+ * The first and the third are proved: `new-sound` and `stays_sound` in crates/observation/proofs/Owned.antt, with their statements in
  * crates/observation/specs/Owned.antt. So both kinds of calls may be made on one table, in any order.
  *
  * What is given up: memory that a stray write has damaged is no longer noticed. If the table is not sound, nothing fixes what an unchecked call

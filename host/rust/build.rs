@@ -1,4 +1,4 @@
-//! Links libhost.a, libhost_fields.a, libhost_unchecked.a and libhost_groups.a, which `rt staticlib host` and so on write: from the folder that
+//! Links libhost.a, libhost_fields.a, libhost_unchecked.a and libhost_groups.a, which `bash prove host` and so on build: from the folder that
 //! SCENES_LIB names, else from the repository's target/staticlib.
 use std::env;
 use std::path::PathBuf;

@@ -78,7 +78,7 @@ pub struct Memory<const N: usize> {
 // INVARIANT: the table is sound, which is the condition of an unchecked call. It begins so: `empty` has a new head over arrays of N places, N
 // at most 1,024 (`new-sound` of crates/observation/specs/Owned.antt), and `from_memory` tests what it is given. And from a sound start the
 // condition holds before every call of any list, loads among them and whatever is answered, if the head that comes back is kept, as `done`
-// does (`stays-sound`, there). Nothing else writes: `memory` is private, `memory()` lends it to be read, and `GroupedScenes` says the same of
+// does (`stays_sound`, there). Nothing else writes: `memory` is private, `memory()` lends it to be read, and `GroupedScenes` says the same of
 // its own calls.
 #[derive(Clone, Debug, PartialEq, Eq)]
 pub struct Scenes<const N: usize> {
