@@ -1,9 +1,5 @@
 -- `damaged::fill_words` is safe and ends. Assumes nothing.
-use Prim.Native.Nat.{◌-◌}
-use mathlib.Core.Path.{◌≡◌, refl}
-use native.Mathlib.Omega.{arith}
-use lib.ListN.{length}
-use borrow.Author.Rules.{rules}
+use mathlib.Core.Path.{refl}
 use Rattle.damaged.proofs.fill_words.Goals as goal
 
 pub loop-i-init : goal.loop-i-init
