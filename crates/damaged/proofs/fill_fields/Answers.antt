@@ -1,7 +1,0 @@
--- `damaged::fill_fields` is safe and ends. Assumes nothing.
-use mathlib.Core.Path.{refl}
-use Rattle.damaged.proofs.fill_fields.Goals as goal
-
-pub loop-i-init : goal.loop-i-init
-loop-i-init c =
-    refl

@@ -1,7 +1,0 @@
--- `damaged::put_nth` is safe and ends. Assumes nothing.
-use mathlib.Core.Path.{refl}
-use Rattle.damaged.proofs.put_nth.Goals as goal
-
-pub loop-i-init : goal.loop-i-init
-loop-i-init c =
-    refl
