@@ -26,8 +26,6 @@ returns-in-Nothing c =
     said_runs (verdict_says v c.read_line-read.result c.read_line-read.new.line) (now-read (counted a.machine)) ≡ run_line (came a.line.now (counted a.machine))) = λ v e. let m = counted c.args.machine in
     (λ i. said_runs (verdict_says (sym e i) c.read_line-read.result c.read_line-read.new.line) (now-read m))
     ∙ says _ c.read_line-read.result c.read_line-read.new.line c.counted-m.ensures c.read_line-read.ensures in
-    let left : Session = session c.obeyed.result.machine c.obeyed.new.keys c.obeyed.new.times c.obeyed.new.fields c.obeyed.new.records c.obeyed.new.words c.obeyed.new.buffer
-    c.read_line-read.new.line (sheet c.obeyed.new.out c.obeyed.result.at) in
     (λ i. now-read (c.counted-m.ensures i)) ∙ runs _ c.in-Nothing.is
 
 pub returns-in-Wrong : goal.returns-in-Wrong
@@ -42,8 +40,6 @@ returns-in-Wrong c =
     said_runs (verdict_says v c.read_line-read.result c.read_line-read.new.line) (now-read (counted a.machine)) ≡ run_line (came a.line.now (counted a.machine))) = λ v e. let m = counted c.args.machine in
     (λ i. said_runs (verdict_says (sym e i) c.read_line-read.result c.read_line-read.new.line) (now-read m))
     ∙ says _ c.read_line-read.result c.read_line-read.new.line c.counted-m.ensures c.read_line-read.ensures in
-    let left : Session = session c.obeyed.result.machine c.obeyed.new.keys c.obeyed.new.times c.obeyed.new.fields c.obeyed.new.records c.obeyed.new.words c.obeyed.new.buffer
-    c.read_line-read.new.line (sheet c.obeyed.new.out c.obeyed.result.at) in
     ended c.counted-m.result c.counted-m.result _ _ _ _ _ _ _ _ _ _ _ _ c.wrong.ensures
     ∙ (λ i. wrong c.in-Wrong.reason (now-read (c.counted-m.ensures i)))
     ∙ runs _ c.in-Wrong.is
