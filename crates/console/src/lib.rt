@@ -6,8 +6,8 @@ ghost use Rattle.words.specs.Constants.{max_scenes, max_memberships};
 ghost use Rattle.script_lines.specs.Lines.{most_image};
 ghost use Rattle.console.specs.Whole.{longest, line_room, most_held, held_answer, Whole};
 
-use libc::{STDIN_FILENO, STDOUT_FILENO};
 use script_machine::{Machine, Ran};
+use std::io::{Input, Print, Read};
 
 // A line has fewer bytes than this: the longest image takes 350,224 digits, and longer ones are to be refused by the table.
 const LINE: usize = 0x6_0000;
@@ -44,11 +44,11 @@ struct Part {
 }
 
 // Writes out what the buffer holds up to a position.
-fn flush(out: &[u8], at: usize) -> bool {
+fn flush(rt: &impl Print, out: &[u8], at: usize) -> bool {
     if at <= out.len() {
-        return io::write_all(STDOUT_FILENO, &out[..at]);
+        return rt.write_all(&out[..at]).is_ok();
     }
-    io::write_all(STDOUT_FILENO, out)
+    rt.write_all(out).is_ok()
 }
 
 // Runs the line that the buffer holds. A line that fills it is too long. The answer stands whole in the output.
@@ -94,6 +94,7 @@ fn run_held(
 
 // Runs the line that the buffer holds, and writes the output out if much of it is held.
 fn step(
+    rt: &impl Print,
     machine: Machine,
     keys: &mut [u64],
     times: &mut [u32],
@@ -130,12 +131,13 @@ fn step(
     Stepped {
         machine: m,
         at: 0,
-        open: flush(out, next),
+        open: flush(rt, out, next),
     }
 }
 
 // Runs the lines that end in a chunk, as long as the output takes their answers.
 fn feed(
+    rt: &impl Print,
     mut m: Machine,
     keys: &mut [u64],
     times: &mut [u32],
@@ -165,7 +167,7 @@ fn feed(
         held = got.held;
         if got.ended {
             let done = step(
-                m, keys, times, fields, records, words, buffer, line, held, out, at,
+                rt, m, keys, times, fields, records, words, buffer, line, held, out, at,
             );
             m = done.machine;
             at = done.at;
@@ -173,7 +175,7 @@ fn feed(
             held = 0;
         }
     }
-    let wrote = flush(out, at);
+    let wrote = flush(rt, out, at);
     Fed {
         machine: m,
         held,
@@ -183,41 +185,44 @@ fn feed(
 
 // Reads a chunk. At the end of the input stands the end that a last line lacks. No signal is handled here, so that no read is
 // interrupted: one that fails is the last.
-fn read_part(chunk: &mut [u8], held: usize) -> Part
+fn read_part(input: &mut impl Read, chunk: &mut [u8], held: usize) -> Part
     ensures { result.n ≤ length chunk.new }
 {
-    let got = libc::read(STDIN_FILENO, chunk);
-    if 0 < got {
+    let got = input.read(chunk);
+    if let Ok(n) = got
+        && 0 < n
+    {
         return Part {
-            n: io::count(got, chunk),
+            n,
             last: false,
             failed: false,
         };
     }
-    if (got < 0) | (held == 0) {
+    if got.is_err() | (held == 0) {
         return Part {
             n: 0,
             last: true,
-            failed: got < 0,
+            failed: got.is_err(),
         };
     }
     text_output::put(chunk, 0, b'\n');
     Part {
-        n: io::count(1, chunk),
+        n: chunk.len().min(1),
         last: true,
         failed: false,
     }
 }
 
 // Tells that the input cannot be read on. A line that was gathered in part is not run: nobody knows its rest.
-fn tell_failed(machine: Machine, out: &mut [u8]) -> bool {
+fn tell_failed(rt: &impl Print, machine: Machine, out: &mut [u8]) -> bool {
     let told = script_machine::read_failed(machine, out, 0);
     let end = told.at;
-    flush(out, end)
+    flush(rt, out, end)
 }
 
 // Reads standard input to its end, in chunks, and runs its lines.
 fn run(
+    rt: &(impl Input + Print),
     machine: Machine,
     keys: &mut [u64],
     times: &mut [u32],
@@ -236,6 +241,7 @@ fn run(
     requires line_len_bound { length line.old ≤ line_room }
 {
     let room: &mut [u8] = out;
+    let mut input = rt.reader();
     let mut m = machine;
     let mut held = 0;
     let mut more = true;
@@ -243,11 +249,11 @@ fn run(
     // Nothing says that the input ends: the turns are counted down, from a number that no run uses up.
     let mut turns = u64::MAX;
     while (0 < turns) & more {
-        let got = read_part(chunk, held);
+        let got = read_part(&mut input, chunk, held);
         let n = got.n;
         let part = &chunk[..n];
         let fed = feed(
-            m, keys, times, fields, records, words, buffer, line, held, part, room,
+            rt, m, keys, times, fields, records, words, buffer, line, held, part, room,
         );
         m = fed.machine;
         held = fed.held;
@@ -256,12 +262,13 @@ fn run(
         turns -= 1;
     }
     if failed {
-        tell_failed(m, room);
+        tell_failed(rt, m, room);
     }
 }
 
 // Lends the buffers of lines, input and output.
 fn buffered(
+    rt: &(impl Input + Print),
     machine: Machine,
     keys: &mut [u64],
     times: &mut [u32],
@@ -279,13 +286,13 @@ fn buffered(
     let mut chunk = [0u8; CHUNK];
     let mut out = [0u8; OUT];
     run(
-        machine, keys, times, fields, records, words, buffer, &mut line, &mut chunk, &mut out,
+        rt, machine, keys, times, fields, records, words, buffer, &mut line, &mut chunk, &mut out,
     );
 }
 
 // scenebench: adds, stores and views on a table of at most 256 scenes. No contract can say what is read and written; that it ends and
 // stays within its memory is proved of it as of any function.
-pub fn bench() {
+pub fn bench(rt: &(impl Input + Print)) {
     let mut keys = [0u64; 256];
     let mut times = [0u32; 256];
     let mut fields = [0u8; 33_024];
@@ -293,6 +300,7 @@ pub fn bench() {
     let mut words = [0u64; 256];
     let mut buffer = [0u8; 256];
     buffered(
+        rt,
         Machine::new(false),
         &mut keys,
         &mut times,
@@ -304,7 +312,7 @@ pub fn bench() {
 }
 
 // scenetrace: every call, on a table of at most 1,024 scenes. No contract, as above.
-pub fn trace() {
+pub fn trace(rt: &(impl Input + Print)) {
     let mut keys = [0u64; 1024];
     let mut times = [0u32; 1024];
     let mut fields = [0u8; 132_096];
@@ -312,6 +320,7 @@ pub fn trace() {
     let mut words = [0u64; 256];
     let mut buffer = [0u8; 175_112];
     buffered(
+        rt,
         Machine::new(true),
         &mut keys,
         &mut times,

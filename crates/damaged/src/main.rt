@@ -5,8 +5,8 @@
 ghost use Rattle.std.specs.Prelude.{◌≤◌};
 
 use damaged_calls::{CALLS, key, make};
-use libc::STDOUT_FILENO;
 use state::ScenesState;
+use std::io::Print;
 
 const ROWS: u8 = 14;
 
@@ -291,24 +291,24 @@ fn put_row(out: &mut [u8], at: usize, row: u8) -> usize {
     text_output::end_line(out, next)
 }
 
-fn print_row(row: u8) {
+// A write that fails ends nothing, here and below: the calls of the rows after it are made all the same.
+fn print_row(rt: &impl Print, row: u8) {
     let mut out = [0u8; 256];
     let n = put_row(&mut out, 0, row);
     if n <= 256 {
-        io::write_all(STDOUT_FILENO, &out[..n]);
+        let _ = rt.write_all(&out[..n]);
     }
 }
 
-fn main() {
-    io::write_all(
-        STDOUT_FILENO,
+fn main(rt: HostRuntime) {
+    let _ = rt.write_all(
         b"add, store, remove, remove all, copy, recall, notice, fabric removal, \
           factory reset, startup, fail-safe commit, fail-safe expiry, view, recall's lookup, \
           membership, info, is_sound, field_bytes; * something changed\n",
     );
     let mut row = 0;
     while row < ROWS {
-        print_row(row);
+        print_row(&rt, row);
         row += 1;
     }
 }

@@ -1,6 +1,6 @@
 // The release check: runs scenetrace on samples/fabric_removal.txt.
 #![tactic(auto)]
 
-fn main() {
-    console::trace();
+fn main(rt: HostRuntime) {
+    console::trace(&rt);
 }

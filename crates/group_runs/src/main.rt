@@ -1,6 +1,6 @@
 // Runs scenetrace on memberships: joining, leaving, asking, and every letter that takes one.
 #![tactic(auto)]
 
-fn main() {
-    console::trace();
+fn main(rt: HostRuntime) {
+    console::trace(&rt);
 }

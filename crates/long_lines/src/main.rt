@@ -1,6 +1,6 @@
 // Runs scenebench on lines that are longer than any call needs.
 #![tactic(auto)]
 
-fn main() {
-    console::bench();
+fn main(rt: HostRuntime) {
+    console::bench(&rt);
 }

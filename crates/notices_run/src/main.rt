@@ -9,10 +9,10 @@ ghost use Rattle.state.specs.Answer.{result_of};
 ghost use Rattle.lifecycle.specs.Lifecycle.{scenable_attribute_changed};
 ghost use Rattle.notices_run.specs.Rows.{table_for};
 
-use libc::STDOUT_FILENO;
 use notices::CurrentScene;
 use scenes::ScenesHandler;
 use state::{Outcome, ScenesState};
+use std::io::Print;
 use words::{KeyWord, SceneKey};
 
 // What the pass over structs left.
@@ -118,32 +118,37 @@ fn agree(state: ScenesState, records: [CurrentScene; 4], endpoint: u16) -> bool
     same_outcome(s.outcome, w.outcome) & same_words(pack_all(after), words)
 }
 
-// Writes what the pass over structs left: status, data version, and a digit for each record, 1 while it is valid.
-fn show(name: &[u8], passed: Passed) {
+// Writes what the pass over structs left: status, data version, and a digit for each record, 1 while it is valid. A write that fails ends
+// nothing, here and below: the rows after it are run all the same.
+fn show(rt: &impl Print, name: &[u8], passed: Passed) {
     let outcome = passed.outcome;
     let state = outcome.state;
     let records = passed.records;
-    io::write_all(STDOUT_FILENO, name);
-    io::write_all(STDOUT_FILENO, b": ");
-    io::print_decimal(STDOUT_FILENO, outcome.status as u64);
-    io::write_all(STDOUT_FILENO, b" ");
-    io::print_decimal(STDOUT_FILENO, state.dataver as u64);
-    io::write_all(STDOUT_FILENO, b" ");
-    show_mark(records[0]);
-    show_mark(records[1]);
-    show_mark(records[2]);
-    show_mark(records[3]);
-    io::write_all(STDOUT_FILENO, b"\n");
+    let status = outcome.status;
+    let dataver = state.dataver;
+    let _ = rt.write_all(name);
+    let _ = print!(rt; ": {status} {dataver} ");
+    show_mark(rt, records[0]);
+    show_mark(rt, records[1]);
+    show_mark(rt, records[2]);
+    show_mark(rt, records[3]);
+    let _ = rt.write_all(b"\n");
 }
 
-fn show_mark(c: CurrentScene) {
-    io::print_decimal(STDOUT_FILENO, c.valid as u64);
+fn show_mark(rt: &impl Print, c: CurrentScene) {
+    let _ = rt.print(c.valid as u8);
 }
 
 // A row: both passes agree, and what they left is written.
-fn row(name: &[u8], state: ScenesState, records: [CurrentScene; 4], endpoint: u16) {
+fn row(
+    rt: &impl Print,
+    name: &[u8],
+    state: ScenesState,
+    records: [CurrentScene; 4],
+    endpoint: u16,
+) {
     check::expect(agree(state, records, endpoint));
-    show(name, on_structs(state, records, endpoint));
+    show(rt, name, on_structs(state, records, endpoint));
 }
 
 // Modes that no pass looks at: both hand them back.
@@ -200,32 +205,45 @@ fn nameless() -> [CurrentScene; 4] {
     ]
 }
 
-fn passes() {
-    row(b"none hit", head(4, 0, 4, 7), mixed(), 3);
-    row(b"one hit", head(4, 0, 4, 7), mixed(), 2);
-    row(b"all hit", head(4, 0, 4, 7), all_valid(), 1);
-    row(b"invalid stays", head(4, 4, 4, 7), mixed(), 1);
-    row(b"other endpoint", head(4, 0, 4, 7), all_valid(), 65535);
+fn passes(rt: &impl Print) {
+    row(rt, b"none hit", head(4, 0, 4, 7), mixed(), 3);
+    row(rt, b"one hit", head(4, 0, 4, 7), mixed(), 2);
+    row(rt, b"all hit", head(4, 0, 4, 7), all_valid(), 1);
+    row(rt, b"invalid stays", head(4, 4, 4, 7), mixed(), 1);
+    row(rt, b"other endpoint", head(4, 0, 4, 7), all_valid(), 65535);
     row(
+        rt,
         b"version wraps",
         head(4, 0, 4, 4_294_967_295),
         all_valid(),
         1,
     );
-    row(b"past the count", head(4, 0, 2, 7), all_valid(), 1);
-    row(b"no record", head(3, 0, 0, 7), all_valid(), 1);
-    row(b"no fabric past the count", head(4, 0, 2, 7), nameless(), 1);
+    row(rt, b"past the count", head(4, 0, 2, 7), all_valid(), 1);
+    row(rt, b"no record", head(3, 0, 0, 7), all_valid(), 1);
+    row(
+        rt,
+        b"no fabric past the count",
+        head(4, 0, 2, 7),
+        nameless(),
+        1,
+    );
 }
 
-fn refusals() {
-    row(b"N above 1024", head(1025, 0, 0, 7), all_valid(), 1);
-    row(b"entries above N", head(3, 4, 3, 7), all_valid(), 1);
-    row(b"records above N", head(3, 0, 4, 7), all_valid(), 1);
-    row(b"slice shorter than N", head(5, 0, 4, 7), all_valid(), 1);
-    row(b"no fabric", head(4, 0, 4, 7), nameless(), 1);
+fn refusals(rt: &impl Print) {
+    row(rt, b"N above 1024", head(1025, 0, 0, 7), all_valid(), 1);
+    row(rt, b"entries above N", head(3, 4, 3, 7), all_valid(), 1);
+    row(rt, b"records above N", head(3, 0, 4, 7), all_valid(), 1);
+    row(
+        rt,
+        b"slice shorter than N",
+        head(5, 0, 4, 7),
+        all_valid(),
+        1,
+    );
+    row(rt, b"no fabric", head(4, 0, 4, 7), nameless(), 1);
 }
 
-fn main() {
-    passes();
-    refusals();
+fn main(rt: HostRuntime) {
+    passes(&rt);
+    refusals(&rt);
 }

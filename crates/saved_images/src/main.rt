@@ -1,6 +1,6 @@
 // Runs scenetrace on images: saved, loaded and refused.
 #![tactic(auto)]
 
-fn main() {
-    console::trace();
+fn main(rt: HostRuntime) {
+    console::trace(&rt);
 }

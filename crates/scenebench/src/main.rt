@@ -1,6 +1,6 @@
 // Runs a script of adds, stores and views.
 #![tactic(auto)]
 
-fn main() {
-    console::bench();
+fn main(rt: HostRuntime) {
+    console::bench(&rt);
 }

@@ -1,6 +1,6 @@
 // Runs a script of any calls.
 #![tactic(auto)]
 
-fn main() {
-    console::trace();
+fn main(rt: HostRuntime) {
+    console::trace(&rt);
 }

@@ -1,9 +1,7 @@
 -- `damaged::fill_fields` is safe and ends. Assumes nothing.
 use Prim.Native.Nat.{◌-◌}
-use mathlib.Core.Path.{◌≡◌, refl}
-use native.Mathlib.Omega.{arith}
+use mathlib.Core.Path.{◌≡◌}
 use lib.ListN.{length}
-use borrow.Author.Rules.{rules}
 use Rattle.damaged.proofs.fill_fields.Given as goal
 
 abbrev pub invariant-loop-i : goal.invariant-loop-i

@@ -1,7 +1,5 @@
 -- `damaged::main` is safe and ends. Assumes nothing.
 use Prim.Native.Nat.{◌-◌}
-use native.Mathlib.Omega.{arith}
-use borrow.Author.Rules.{rules}
 use Rattle.damaged.proofs.main.Given as goal
 
 abbrev pub invariant-loop-row : goal.invariant-loop-row

@@ -1,9 +1,7 @@
 -- `damaged::put_row` is safe and ends. Assumes nothing.
 use Prim.Native.Nat.{◌-◌}
 use mathlib.Core.Path.{◌≡◌}
-use native.Mathlib.Omega.{arith}
 use lib.ListN.{length}
-use borrow.Author.Rules.{rules}
 use Rattle.damaged.proofs.put_row.Given as goal
 
 abbrev pub invariant-loop-call : goal.invariant-loop-call

@@ -1,6 +1,5 @@
 -- `damaged::words_kept` is safe and ends. Assumes nothing.
 use Prim.Native.Nat.{◌-◌}
-use native.Mathlib.Omega.{arith}
 use lib.ListN.{length}
 use Rattle.damaged.proofs.words_kept.Given as goal
 

@@ -6,7 +6,6 @@ use Rattle.words.proofs.Tests.{and_intro}
 use Rattle.lifecycle.specs.Lifecycle.{scenable_attribute_changed}
 use Rattle.notices_run.specs.Rows.{table_for}
 use Rattle.notices_run.proofs.Agreement.{all_typed, agreement}
-use borrow.Author.Rules.{rules}
 use Rattle.notices_run.proofs.agree.Goals as goal
 
 pub returns : goal.returns

@@ -1,5 +1,4 @@
 -- `pack` meets its contract. Assumes nothing.
-use borrow.Author.Rules.{rules}
 use Rattle.notices_run.proofs.pack.Goals as goal
 
 pub returns-then-c : goal.returns-then-c

@@ -1,6 +1,5 @@
 -- `pack_all` meets its contract. Assumes nothing.
 use Rattle.notices_run.proofs.Equal.{four_words}
-use borrow.Author.Rules.{rules}
 use Rattle.notices_run.proofs.pack_all.Goals as goal
 
 pub returns : goal.returns

@@ -1,6 +1,5 @@
 -- `same_words` meets its contract. Assumes nothing.
 use Rattle.notices_run.proofs.Equal.{words_true, words_same}
-use borrow.Author.Rules.{rules}
 use Rattle.notices_run.proofs.same_words.Goals as goal
 
 pub returns : goal.returns

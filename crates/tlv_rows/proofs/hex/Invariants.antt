@@ -1,12 +1,6 @@
--- `tlv_rows::hex` is safe and ends. Assumes nothing.
-use Prim.Native.Nat.{◌-◌}
-use native.Mathlib.Omega.{arith}
-use lib.ListN.{length}
-use borrow.Author.Rules.{rules}
+-- `tlv_rows::hex` is safe and ends: its loop goes through the bytes. Assumes nothing.
+use Rattle.std.proofs.Common.{length, ◌-◌}
 use Rattle.tlv_rows.proofs.hex.Given as goal
 
-abbrev pub invariant-loop-i : goal.invariant-loop-i
-invariant-loop-i l = Unit {0}
-
 abbrev pub decreases-loop-i : goal.decreases-loop-i
-decreases-loop-i l = length l.bytes - i
+decreases-loop-i g l = length l.bytes - l.i
