@@ -2,7 +2,6 @@
 use Prim.Native.Nat.{ℕ}
 use mathlib.Core.Path.{◌≡◌, sym, ◌∙◌}
 use mathlib.Core.List.{List}
-use borrow.Author.Rules.{rules}
 use Rattle.field_sets.specs.declared.reader.Total.TheVariants.{Counted}
 use Rattle.field_sets.specs.Reader.{total_of, sets_in}
 use Rattle.field_pairs.specs.Listing.{listing_of}

@@ -1,14 +1,10 @@
 -- `field_pairs::put_pairs` meets its contract. Assumes nothing.
 use Prim.Native.Nat.{ℕ}
-use mathlib.Core.Path.{◌≡◌, refl, sym, ap, subst, ◌∙◌}
+use mathlib.Core.Path.{refl, sym, ap, subst, ◌∙◌}
 use mathlib.Core.List.{List}
-use borrow.Author.Rules.{rules}
-use lib.ListN.{length}
 use Rattle.text_output.specs.Writing.{sheet, puts}
 use Rattle.field_sets.specs.declared.reader.Cursor.{Cursor}
-use Rattle.field_sets.specs.Reader.{sets_in}
-use Rattle.field_pairs.specs.Words.{words_in}
-use Rattle.field_pairs.proofs.Rest.{rest_of, Readable, steps_left, ToCluster, ToAttribute, to_cluster, to_attribute, to_end, to_refusal}
+use Rattle.field_pairs.proofs.Rest.{rest_of, Readable, ToCluster, ToAttribute, to_cluster, to_attribute, to_end, to_refusal}
 use Rattle.field_pairs.proofs.Rest.{readable-start, rest_start, same-room, put_step, put_same, put-nothing}
 use Rattle.field_pairs.proofs.put_pairs.Goals as goal
 

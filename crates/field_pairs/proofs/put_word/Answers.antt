@@ -1,6 +1,5 @@
 -- `field_pairs::put_word` meets its contract. Assumes nothing.
 use mathlib.Core.Path.{sym}
-use borrow.Author.Rules.{rules}
 use Rattle.text_output.proofs.Writing.{put-fits, put_left_out}
 use Rattle.field_pairs.proofs.put_word.Goals as goal
 

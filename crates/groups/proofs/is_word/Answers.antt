@@ -1,6 +1,5 @@
 -- `groups::is_word` meets its contract. Assumes nothing.
 use mathlib.Core.Path.{refl}
-use borrow.Author.Rules.{rules}
 use Rattle.groups.proofs.is_word.Goals as goal
 
 pub returns : goal.returns

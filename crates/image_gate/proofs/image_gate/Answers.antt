@@ -1,7 +1,5 @@
 -- `image_gate::image_gate` meets its contract. Assumes nothing.
-use native.Mathlib.Omega.{arith}
 use Rattle.image_gate.proofs.Gating.{gate_answers}
-use borrow.Author.Rules.{rules}
 use Rattle.image_gate.proofs.image_gate.Goals as goal
 
 pub returns : goal.returns

@@ -1,6 +1,5 @@
 -- `image_gate::is_barred` meets its contract. Assumes nothing.
 use mathlib.Core.Path.{refl}
-use borrow.Author.Rules.{rules}
 use Rattle.image_gate.proofs.is_barred.Goals as goal
 
 pub returns : goal.returns

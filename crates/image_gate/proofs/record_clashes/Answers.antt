@@ -1,7 +1,6 @@
 -- `image_gate::record_clashes` meets its contract. Assumes nothing.
 use mathlib.Core.Path.{sym, ◌∙◌}
 use native.Mathlib.Omega.{arith}
-use borrow.Author.Rules.{rules}
 use Rattle.image_gate.proofs.record_clashes.Goals as goal
 
 pub returns-then-is_barred : goal.returns-then-is_barred

@@ -1,14 +1,10 @@
 -- `image_gate::scan_entries` meets its contract. Assumes nothing.
 use Prim.Native.Nat.{◌-◌}
-use mathlib.Core.Path.{sym, ap, ◌∙◌}
-use native.Mathlib.Omega.{arith}
 use lib.ListN.{length}
-use Rattle.tlv.proofs.Walks.{member_on}
 use Rattle.image_reader.specs.Entries.{entry_at}
 use Rattle.image_gate.specs.Deciding.{key_in}
 use Rattle.image_gate.specs.Verdict.{key_clashes}
-use Rattle.image_gate.proofs.Scanning.{Turn, keys_local, turn_start, turn_end, turn_damaged, turn_unread, turn_full, turn_room, turn_next}
-use borrow.Author.Rules.{rules}
+use Rattle.image_gate.proofs.Scanning.{Turn}
 use Rattle.image_gate.proofs.scan_entries.Given as goal
 
 abbrev pub invariant-loop-next : goal.invariant-loop-next

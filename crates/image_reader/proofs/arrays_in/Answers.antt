@@ -5,7 +5,6 @@ use Rattle.tlv.specs.Types.{struct_type}
 use Rattle.tlv.specs.Values.{inside_at}
 use Rattle.image_reader.specs.Image.{array_under, arrays_in}
 use Rattle.image_reader.proofs.Finding.{entries-found, records-found}
-use borrow.Author.Rules.{rules}
 use Rattle.image_reader.proofs.arrays_in.Goals as goal
 
 pub returns-in_default : goal.returns-in_default

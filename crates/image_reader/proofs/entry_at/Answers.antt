@@ -11,7 +11,6 @@ use Rattle.words.specs.Constants.{max_fields}
 use Rattle.image_reader.specs.Entries.{member_number, member_octets, key_from, entry_at}
 use Rattle.image_reader.proofs.Finding.{key-found, time-found, fields-found}
 use Rattle.image_reader.proofs.Bounds.{member_u32, member-span}
-use borrow.Author.Rules.{rules}
 use Rattle.image_reader.proofs.entry_at.Goals as goal
 
 pub returns-in_default : goal.returns-in_default

@@ -1,12 +1,9 @@
 -- `image_reader::find_places` meets its contract: what is noted so far, with what is still to come, is where the members stand. Assumes nothing.
 use Prim.Native.Nat.{◌-◌}
-use mathlib.Core.Path.{◌≡◌, refl, sym, ◌∙◌}
-use native.Mathlib.Omega.{arith}
+use mathlib.Core.Path.{◌≡◌}
 use lib.ListN.{length}
-use Rattle.tlv.proofs.Walks.{member_on}
 use Rattle.image_reader.specs.Places.{tags, places_from}
-use Rattle.image_reader.proofs.Finding.{completed, places-start, places-step, places_end, places_damaged}
-use borrow.Author.Rules.{rules}
+use Rattle.image_reader.proofs.Finding.{completed}
 use Rattle.image_reader.proofs.find_places.Given as goal
 
 abbrev pub invariant-loop-e : goal.invariant-loop-e

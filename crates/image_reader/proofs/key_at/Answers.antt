@@ -10,7 +10,6 @@ use Rattle.tlv.specs.Types.{u8_type, u16_type}
 use Rattle.tlv.specs.Values.{number_at}
 use Rattle.tlv.proofs.Says.{u8_under, u16_under}
 use Rattle.image_reader.specs.Places.{key_at}
-use borrow.Author.Rules.{rules}
 use Rattle.image_reader.proofs.key_at.Goals as goal
 
 -- what stands at the place of a tag

@@ -1,7 +1,6 @@
 -- `image_reader::note` meets its contract. Assumes nothing.
 use mathlib.Core.Path.{sym}
 use Rattle.image_reader.proofs.Finding.{noted_untagged, noted_above, noted_first, noted_again}
-use borrow.Author.Rules.{rules}
 use Rattle.image_reader.proofs.note.Goals as goal
 
 pub returns-then-e-ne-CONTEXT : goal.returns-then-e-ne-CONTEXT

@@ -9,7 +9,6 @@ use Rattle.tlv.specs.Values.{inside_at}
 use Rattle.image_reader.specs.Entries.{member_bool, key_from, record_at}
 use Rattle.image_reader.proofs.Finding.{key-found, valid-found}
 use Rattle.image_reader.proofs.Bounds.{key_bounds}
-use borrow.Author.Rules.{rules}
 use Rattle.image_reader.proofs.record_at.Goals as goal
 
 pub returns-in_default : goal.returns-in_default

@@ -1,18 +1,13 @@
 -- `records::clear` meets its contract: the words below i are invalidated, and `any` says whether one was hit. Assumes nothing.
-use Prim.Native.Nat.{ℕ, ◌-◌, ◌≤◌}
 use mathlib.Core.Path.{◌≡◌, refl, sym, ap, ◌∙◌}
-use mathlib.Core.Bool.{Bool}
-use mathlib.Core.List.{List}
 use native.Mathlib.Omega.{arith}
-use borrow.Author.Rules.{rules}
-use lib.ListN.{length, get_or, set, length-set}
+use lib.ListN.{set, length-set}
 use Rattle.words.specs.Words.{key_of_record}
 use Rattle.words.proofs.Below.{any_none, any_hit_lem, any_miss}
-use Rattle.records.specs.declared.Scope.{Scope}
-use Rattle.records.specs.Records.{hits, invalidated, any_hit}
-use Rattle.records.proofs.Laws.{invalidated_none, invalidated_here, invalidated_hit, invalidated_miss}
+use Rattle.records.specs.Records.{hits, any_hit}
+use Rattle.records.proofs.Laws.{invalidated_none, invalidated_hit, invalidated_miss}
 use Rattle.records.proofs.clear.Goals as goal
-use Rattle.records.proofs.clear.Invariants.{Turn, here}
+use Rattle.records.proofs.clear.Invariants.{here}
 
 pub loop-i-init : goal.loop-i-init
 unfolding any_hit

@@ -1,16 +1,12 @@
 -- `records::clear` meets its contract: the words below i are invalidated, and `any` says whether one was hit. Assumes nothing.
 use Prim.Native.Nat.{ℕ, ◌-◌, ◌≤◌}
-use mathlib.Core.Path.{◌≡◌, refl, sym, ap, ◌∙◌}
+use mathlib.Core.Path.{◌≡◌, ap, ◌∙◌}
 use mathlib.Core.Bool.{Bool}
 use mathlib.Core.List.{List}
-use native.Mathlib.Omega.{arith}
-use borrow.Author.Rules.{rules}
-use lib.ListN.{length, get_or, set, length-set}
-use Rattle.words.specs.Words.{key_of_record}
-use Rattle.words.proofs.Below.{any_none, any_hit_lem, any_miss}
+use lib.ListN.{length, get_or}
 use Rattle.records.specs.declared.Scope.{Scope}
-use Rattle.records.specs.Records.{hits, invalidated, any_hit}
-use Rattle.records.proofs.Laws.{invalidated_none, invalidated_here, invalidated_hit, invalidated_miss}
+use Rattle.records.specs.Records.{invalidated, any_hit}
+use Rattle.records.proofs.Laws.{invalidated_here}
 use Rattle.records.proofs.clear.Given as goal
 
 pub record Turn (l : List ℕ) (n : ℕ) (scope : Scope) (records : List ℕ) (any : Bool) (i : ℕ) : Type 0 where

@@ -1,9 +1,6 @@
 -- `records::find` meets its contract: no record below i is owned. Assumes nothing.
 use Prim.Native.Nat.{◌≤◌, ◌-◌}
-use mathlib.Core.Path.{◌≡◌, sym, ◌∙◌}
-use native.Mathlib.Omega.{arith}
-use borrow.Author.Rules.{rules}
-use Rattle.words.proofs.Below.{first_none, first_more, first_at}
+use mathlib.Core.Path.{◌≡◌}
 use Rattle.words.specs.declared.Found.TheVariants.{Nothing}
 use Rattle.records.specs.Records.{first_owned}
 use Rattle.records.proofs.find.Given as goal

@@ -1,6 +1,5 @@
 -- `records::is_hit` meets its contract. Assumes nothing.
 use mathlib.Core.Path.{sym, ◌∙◌}
-use borrow.Author.Rules.{rules}
 use Rattle.records.proofs.is_hit.Goals as goal
 
 pub returns-then-is_valid : goal.returns-then-is_valid

@@ -1,7 +1,6 @@
 -- `records::is_in_scope` meets its contract: each arm is the definition's case. Assumes nothing.
 use mathlib.Core.Path.{refl, sym, ◌∙◌}
 use mathlib.Core.Bool.{true, false}
-use borrow.Author.Rules.{rules}
 use Rattle.records.specs.Records.{in_scope}
 use Rattle.records.proofs.Laws.{by_scene, by_group}
 use Rattle.records.proofs.is_in_scope.Goals as goal

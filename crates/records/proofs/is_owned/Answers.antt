@@ -1,6 +1,5 @@
 -- `records::is_owned` meets its contract. Assumes nothing.
 use mathlib.Core.Path.{refl}
-use borrow.Author.Rules.{rules}
 use Rattle.records.proofs.is_owned.Goals as goal
 
 pub returns : goal.returns

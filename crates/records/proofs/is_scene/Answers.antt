@@ -1,6 +1,5 @@
 -- `records::is_scene` meets its contract. Assumes nothing.
 use mathlib.Core.Path.{refl}
-use borrow.Author.Rules.{rules}
 use Rattle.records.proofs.is_scene.Goals as goal
 
 pub returns : goal.returns

@@ -1,6 +1,5 @@
 -- `records::is_sound` meets its contract. Assumes nothing.
 use mathlib.Core.Path.{refl}
-use borrow.Author.Rules.{rules}
 use Rattle.records.proofs.is_sound.Goals as goal
 
 pub returns : goal.returns

@@ -1,8 +1,6 @@
 -- `records::records_sound` meets its contract: it has looked at each word below i. Assumes nothing.
-use Prim.Native.Nat.{◌≤◌, ◌-◌}
 use mathlib.Core.Path.{◌≡◌, sym}
 use native.Mathlib.Omega.{arith}
-use borrow.Author.Rules.{rules}
 use Rattle.words.proofs.Below.{every_none, every_next}
 use Rattle.records.specs.Records.{records_sound}
 use Rattle.records.proofs.records_sound.Goals as goal

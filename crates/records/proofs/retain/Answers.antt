@@ -1,15 +1,14 @@
 -- `records::retain` meets its contract: the records kept of the first i stand in front, and the rest is as it came. Assumes nothing.
-use Prim.Native.Nat.{ℕ, ◌+◌, ◌-◌, ◌≤◌}
+use Prim.Native.Nat.{ℕ, ◌+◌}
 use mathlib.Core.Path.{◌≡◌, refl, sym, ap, ◌∙◌}
 use mathlib.Core.List.{List, [], ◌∷◌}
 use native.Mathlib.Omega.{arith}
-use borrow.Author.Rules.{rules}
 use lib.ListN.{length, get_or, set, length-append, length-set}
 use Rattle.words.specs.Words.{fabric_of, key_of_record}
 use Rattle.records.specs.Records.{others_of, moved}
-use Rattle.records.proofs.Laws.{others_none, others_keep, others_skip, moved_none, moved-past, moved_more}
+use Rattle.records.proofs.Laws.{others_none, others_keep, others_skip, moved_none, moved_more}
 use Rattle.records.proofs.retain.Goals as goal
-use Rattle.records.proofs.retain.Invariants.{Turn, here}
+use Rattle.records.proofs.retain.Invariants.{here}
 
 pub loop-i-init : goal.loop-i-init
 loop-i-init c =

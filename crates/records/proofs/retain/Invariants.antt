@@ -1,13 +1,11 @@
 -- `records::retain` meets its contract: the records kept of the first i stand in front, and the rest is as it came. Assumes nothing.
-use Prim.Native.Nat.{ℕ, ◌+◌, ◌-◌, ◌≤◌}
-use mathlib.Core.Path.{◌≡◌, refl, sym, ap, ◌∙◌}
-use mathlib.Core.List.{List, [], ◌∷◌}
+use Prim.Native.Nat.{ℕ, ◌-◌, ◌≤◌}
+use mathlib.Core.Path.{◌≡◌, ap, ◌∙◌}
+use mathlib.Core.List.{List}
 use native.Mathlib.Omega.{arith}
-use borrow.Author.Rules.{rules}
-use lib.ListN.{length, get_or, set, length-append, length-set}
-use Rattle.words.specs.Words.{fabric_of, key_of_record}
+use lib.ListN.{length, get_or}
 use Rattle.records.specs.Records.{others_of, moved}
-use Rattle.records.proofs.Laws.{others_none, others_keep, others_skip, moved_none, moved-past, moved_more}
+use Rattle.records.proofs.Laws.{moved-past}
 use Rattle.records.proofs.retain.Given as goal
 
 pub record Turn (l : List ℕ) (n fabric : ℕ) (records : List ℕ) (i j : ℕ) : Type 0 where

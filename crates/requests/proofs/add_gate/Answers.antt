@@ -2,7 +2,6 @@
 use mathlib.Core.Path.{◌≡◌, sym, ◌∙◌}
 use Rattle.requests.specs.Requests.{or_next, add_gate, fabric_gate, scene_gate, time_gate, target_gate, pairs_gate, fields_gate}
 use Rattle.requests.proofs.Laws.{refused_early, passed_early}
-use borrow.Author.Rules.{rules}
 use Rattle.requests.proofs.add_gate.Goals as goal
 
 pub returns-then-early-ne-SUCCESS : goal.returns-then-early-ne-SUCCESS

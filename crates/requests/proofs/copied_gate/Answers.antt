@@ -1,7 +1,6 @@
 -- `requests::copied_gate` meets its contract. Assumes nothing.
 use mathlib.Core.Path.{◌≡◌, sym, ◌∙◌}
 use mathlib.Core.Bool.{true}
-use borrow.Author.Rules.{rules}
 use Rattle.requests.specs.Requests.{whole_group}
 use Rattle.requests.proofs.copied_gate.Goals as goal
 

@@ -2,7 +2,6 @@
 use mathlib.Core.Path.{sym, ◌∙◌}
 use Rattle.requests.specs.Requests.{group_gate, first_refusal}
 use Rattle.requests.proofs.Laws.{next_both, next_last}
-use borrow.Author.Rules.{rules}
 use Rattle.requests.proofs.group_gate.Goals as goal
 
 pub returns : goal.returns

@@ -2,7 +2,6 @@
 use mathlib.Core.Path.{refl, sym, ◌∙◌}
 use Rattle.requests.specs.Requests.{info_gate, first_refusal, or_next}
 use Rattle.requests.proofs.Laws.{next_refuse}
-use borrow.Author.Rules.{rules}
 use Rattle.requests.proofs.info_gate.Goals as goal
 
 pub returns-then-refusal-ne-SUCCESS : goal.returns-then-refusal-ne-SUCCESS

@@ -2,7 +2,6 @@
 use mathlib.Core.Path.{◌≡◌, refl, sym, ap, ◌∙◌}
 use Rattle.requests.specs.Requests.{lookup_gate, first_refusal, or_next, scene_gate, source_gate}
 use Rattle.requests.proofs.Laws.{next_both, next_last}
-use borrow.Author.Rules.{rules}
 use Rattle.requests.proofs.lookup_gate.Goals as goal
 
 pub returns : goal.returns

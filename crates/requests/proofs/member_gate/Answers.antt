@@ -4,7 +4,6 @@ use borrow.Author.Tests.{eq-eqb}
 use native.Mathlib.Omega.{arith}
 use Rattle.requests.specs.Requests.{member_gate}
 use Rattle.requests.proofs.Laws.{asked}
-use borrow.Author.Rules.{rules}
 use Rattle.requests.proofs.member_gate.Goals as goal
 
 pub returns-then-group-eq0 : goal.returns-then-group-eq0

@@ -1,9 +1,6 @@
 -- `requests::pairs_gate` meets its contract. Assumes nothing.
-use Prim.Native.Nat.{◌≤◌, ◌-◌}
-use mathlib.Core.Path.{◌≡◌, refl, sym, ◌∙◌}
+use mathlib.Core.Path.{refl, sym, ◌∙◌}
 use native.Mathlib.Omega.{arith}
-use lib.ListN.{length, drop}
-use Rattle.requests.specs.Requests.{pairs_gate}
 use Rattle.requests.proofs.Laws.{pairs_zero, pairs_bad, pairs_next, pairs_end}
 use Rattle.requests.proofs.pairs_gate.Goals as goal
 

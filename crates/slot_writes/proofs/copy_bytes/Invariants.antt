@@ -1,12 +1,8 @@
 -- `slot_writes::copy_bytes` meets its contract: the first i bytes are copied, and behind the loop the last one. Assumes nothing.
-use Prim.Native.Nat.{ℕ, ◌+◌, ◌-◌, ◌≤◌, ◌<◌}
-use mathlib.Core.Path.{◌≡◌, refl, sym, subst, ◌∙◌}
-use mathlib.Core.List.{List}
-use native.Mathlib.Omega.{arith}
-use lib.ListN.{length, get_or, set}
+use Prim.Native.Nat.{◌-◌, ◌≤◌}
 use Rattle.words.specs.Constants.{stride, max_fields}
 use Rattle.slots.specs.Slots.{part}
-use Rattle.slots.proofs.Laws.{Copied, copied_none, copied_more, copied-past, copied_all, get_d_part, length_part}
+use Rattle.slots.proofs.Laws.{Copied}
 use Rattle.slot_writes.proofs.copy_bytes.Given as goal
 
 abbrev pub invariant-loop-i : goal.invariant-loop-i

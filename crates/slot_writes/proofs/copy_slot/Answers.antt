@@ -2,7 +2,6 @@
 use Prim.Native.Nat.{ℕ}
 use mathlib.Core.Path.{◌≡◌, sym, ap, ◌∙◌}
 use native.Mathlib.Omega.{arith}
-use borrow.Author.Rules.{rules}
 use Rattle.slots.specs.Slots.{slots_of, copy_slot}
 use Rattle.slots.proofs.Laws.{copy-same}
 use Rattle.slot_writes.proofs.copy_slot.Goals as goal

@@ -1,9 +1,7 @@
 -- `slot_writes::put_bytes` meets its contract: the first i bytes are copied behind the length byte. Assumes nothing.
 use Prim.Native.Nat.{◌+◌, ◌-◌}
-use mathlib.Core.Path.{◌∙◌}
-use native.Mathlib.Omega.{arith}
-use lib.ListN.{length, length-set}
-use Rattle.slots.proofs.Laws.{Copied, copied_none, copied_more, copied_all, overlay-set}
+use lib.ListN.{length}
+use Rattle.slots.proofs.Laws.{Copied}
 use Rattle.slot_writes.proofs.put_bytes.Given as goal
 
 abbrev pub invariant-loop-i : goal.invariant-loop-i

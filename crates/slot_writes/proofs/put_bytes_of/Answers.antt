@@ -1,15 +1,12 @@
 -- `slot_writes::put_bytes_of` meets its contract: the length byte and the first bytes behind it are copied, i in all. Assumes nothing.
-use Prim.Native.Nat.{ℕ, ◌+◌, ◌*◌, ◌-◌, ◌<◌}
-use mathlib.Core.Path.{◌≡◌, refl, sym, ap, ◌∙◌}
-use mathlib.Core.Bool.{true, false}
+use Prim.Native.Nat.{ℕ, ◌+◌, ◌*◌, ◌<◌}
+use mathlib.Core.Path.{◌≡◌, sym, ap, ◌∙◌}
 use mathlib.Core.List.{List}
 use native.Mathlib.Omega.{arith}
-use lib.Dec.{leb}
 use lib.ListN.{get_or}
-use borrow.Author.Tests.{leb-true, leb-false}
 use Rattle.words.specs.Constants.{stride}
-use Rattle.slots.specs.Slots.{part, length_at, overlay}
-use Rattle.slots.proofs.Laws.{Copied, copied_none, copied_more, copied-past, copied-before, copied_all, get_d_part, length_part, length_then_lem}
+use Rattle.slots.specs.Slots.{length_at, overlay}
+use Rattle.slots.proofs.Laws.{copied_none, copied_more, copied_all, get_d_part, length_part, length_then_lem}
 use Rattle.slot_writes.proofs.put_bytes_of.Goals as goal
 use Rattle.slot_writes.proofs.put_bytes_of.Invariants.{source, unchanged}
 

@@ -1,7 +1,6 @@
 -- `slot_writes::put_copy` meets its contract. Assumes nothing.
 use mathlib.Core.Path.{ap}
 use Rattle.slots.specs.Slots.{put_slot, slots_of}
-use borrow.Author.Rules.{rules}
 use Rattle.slot_writes.proofs.put_copy.Goals as goal
 
 pub returns : goal.returns

@@ -1,18 +1,13 @@
 -- `slot_writes::retain` meets its contract: those kept of the first i entries stand in front, and the rest is as it came. Assumes nothing.
-use Prim.Native.Nat.{ℕ, ◌+◌, ◌-◌, ◌≤◌, ◌<◌}
+use Prim.Native.Nat.{ℕ}
 use mathlib.Core.Path.{◌≡◌, sym, ap, ◌∙◌}
-use mathlib.Core.Bool.{true, false}
-use mathlib.Core.List.{List, [], ◌∷◌, ◌++◌}
+use mathlib.Core.List.{List}
 use native.Mathlib.Omega.{arith}
-use borrow.Author.Rules.{rules}
-use lib.ListN.{length, get_or, length-append}
-use Rattle.words.specs.Words.{within}
-use Rattle.words.specs.declared.KeyRange.{KeyRange}
-use Rattle.slots.specs.Slots.{Slots, slots_of, outside, gathered, copy_slot}
-use Rattle.slots.proofs.Laws.{Bounds, outside_none, outside-keep, outside_skip, outside_le, outside_under, gathered_none, gathered_more, gathered-key}
-use Rattle.slots.proofs.View.{SameLengths, gathered-lengths}
+use lib.ListN.{length}
+use Rattle.slots.specs.Slots.{slots_of, gathered}
+use Rattle.slots.proofs.Laws.{outside_none, gathered_none}
 use Rattle.slot_writes.proofs.retain.Goals as goal
-use Rattle.slot_writes.proofs.retain.Invariants.{Turn, turn, came, skip, keep}
+use Rattle.slot_writes.proofs.retain.Invariants.{turn, skip, keep}
 
 pub loop-i-init : goal.loop-i-init
 loop-i-init c =

@@ -4,12 +4,11 @@ use mathlib.Core.Path.{◌≡◌, sym, ap, ◌∙◌}
 use mathlib.Core.Bool.{true, false}
 use mathlib.Core.List.{List, [], ◌∷◌, ◌++◌}
 use native.Mathlib.Omega.{arith}
-use borrow.Author.Rules.{rules}
 use lib.ListN.{length, get_or, length-append}
 use Rattle.words.specs.Words.{within}
 use Rattle.words.specs.declared.KeyRange.{KeyRange}
 use Rattle.slots.specs.Slots.{Slots, slots_of, outside, gathered, copy_slot}
-use Rattle.slots.proofs.Laws.{Bounds, outside_none, outside-keep, outside_skip, outside_le, outside_under, gathered_none, gathered_more, gathered-key}
+use Rattle.slots.proofs.Laws.{Bounds, outside-keep, outside_skip, outside_le, outside_under, gathered_more, gathered-key}
 use Rattle.slots.proofs.View.{SameLengths, gathered-lengths}
 use Rattle.slot_writes.proofs.retain.Given as goal
 

@@ -1,10 +1,6 @@
 -- `slots::count` meets its contract: the count is that of the positions below i. Assumes nothing.
-use Prim.Native.Nat.{ℕ, ◌+◌, ◌≤◌, ◌-◌}
-use mathlib.Core.Path.{◌≡◌, sym, ◌∙◌, ap}
-use mathlib.Core.Logic.{⊎_elim}
-use native.Mathlib.Omega.{arith}
-use borrow.Author.Rules.{rules}
-use Rattle.words.proofs.Below.{count_none, count_hit, count_miss}
+use Prim.Native.Nat.{◌≤◌, ◌-◌}
+use mathlib.Core.Path.{◌≡◌}
 use Rattle.slots.specs.Slots.{count_keys}
 use Rattle.slots.proofs.count.Given as goal
 

@@ -4,7 +4,6 @@ use native.Mathlib.Nat.{add-sub_cancel_left}
 use mathlib.Core.Path.{ap, ◌∙◌}
 use Rattle.words.specs.Constants.{stride}
 use Rattle.slots.specs.Slots.{part}
-use borrow.Author.Rules.{rules}
 use Rattle.slots.proofs.field_bytes.Goals as goal
 
 pub returns : goal.returns

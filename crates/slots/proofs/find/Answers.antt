@@ -1,11 +1,9 @@
 -- `slots::find` meets its contract: no position below i holds the key word. Assumes nothing.
-use Prim.Native.Nat.{◌+◌, ◌≤◌, ◌-◌}
-use mathlib.Core.Path.{◌≡◌, sym, ◌∙◌}
+use Prim.Native.Nat.{◌+◌}
+use mathlib.Core.Path.{sym, ◌∙◌}
 use native.Mathlib.Omega.{arith}
 use Rattle.words.proofs.Below.{first_none, first_stays}
-use Rattle.words.specs.declared.Found.TheVariants.{Nothing}
 use Rattle.slots.specs.Slots.{first_key}
-use borrow.Author.Rules.{rules}
 use Rattle.slots.proofs.find.Goals as goal
 
 pub loop-i-init : goal.loop-i-init

@@ -1,11 +1,8 @@
 -- `slots::find` meets its contract: no position below i holds the key word. Assumes nothing.
-use Prim.Native.Nat.{◌+◌, ◌≤◌, ◌-◌}
-use mathlib.Core.Path.{◌≡◌, sym, ◌∙◌}
-use native.Mathlib.Omega.{arith}
-use Rattle.words.proofs.Below.{first_none, first_stays}
+use Prim.Native.Nat.{◌≤◌, ◌-◌}
+use mathlib.Core.Path.{◌≡◌}
 use Rattle.words.specs.declared.Found.TheVariants.{Nothing}
 use Rattle.slots.specs.Slots.{first_key}
-use borrow.Author.Rules.{rules}
 use Rattle.slots.proofs.find.Given as goal
 
 abbrev pub invariant-loop-i : goal.invariant-loop-i

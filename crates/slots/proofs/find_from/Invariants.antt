@@ -1,9 +1,6 @@
 -- `slots::find_from` meets its contract: no position below i holds the key word. Assumes nothing.
 use Prim.Native.Nat.{◌≤◌, ◌-◌}
-use mathlib.Core.Path.{◌≡◌, sym}
-use native.Mathlib.Omega.{arith}
-use borrow.Author.Tests.{eq-eqb, ne_eqb}
-use Rattle.words.proofs.Below.{first_more, first_at}
+use mathlib.Core.Path.{◌≡◌}
 use Rattle.words.specs.declared.Found.TheVariants.{Nothing}
 use Rattle.slots.specs.Slots.{first_key}
 use Rattle.slots.proofs.find_from.Given as goal

@@ -4,7 +4,6 @@ use mathlib.Core.Path.{◌≡◌, sym, ap, ◌∙◌}
 use native.Mathlib.Omega.{arith}
 use Rattle.words.proofs.Below.{first_stays}
 use Rattle.slots.specs.Slots.{first_key}
-use borrow.Author.Rules.{rules}
 use Rattle.slots.proofs.find_in_eight.Goals as goal
 
 pub find_in_four-requires-in_default : goal.find_in_four-requires-in_default

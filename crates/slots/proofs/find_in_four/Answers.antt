@@ -1,6 +1,6 @@
 -- `slots::find_in_four` meets its contract. Assumes nothing.
 use Prim.Native.Nat.{ℕ, ◌+◌, ◌<◌}
-use mathlib.Core.Path.{◌≡◌, sym, subst}
+use mathlib.Core.Path.{◌≡◌, sym}
 use mathlib.Core.List.{List}
 use native.Mathlib.Omega.{arith}
 use borrow.Author.Tests.{eq-eqb, ne_eqb}
@@ -8,7 +8,6 @@ use lib.ListN.{get_or}
 use Rattle.words.proofs.Below.{first_more, first_at}
 use Rattle.words.specs.declared.Found.TheVariants.{At, Nothing}
 use Rattle.slots.specs.Slots.{first_key}
-use borrow.Author.Rules.{rules}
 use Rattle.slots.proofs.find_in_four.Goals as goal
 
 -- one position: the key word stands there, or below the next it does not either

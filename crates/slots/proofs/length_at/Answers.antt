@@ -2,7 +2,6 @@
 use Prim.Native.Nat.{◌*◌}
 use native.Mathlib.Omega.{arith}
 use Rattle.words.specs.Constants.{stride}
-use borrow.Author.Rules.{rules}
 use Rattle.slots.proofs.length_at.Goals as goal
 
 pub overflow_cast-result : goal.overflow_cast-result

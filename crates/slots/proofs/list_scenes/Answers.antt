@@ -1,17 +1,13 @@
 -- `slots::list_scenes` meets its contract: the scene ids of the first i key words stand in front, and the rest is as it came. Assumes nothing.
-use Prim.Native.Nat.{ℕ, ◌+◌, ◌-◌, ◌≤◌, ◌<◌}
+use Prim.Native.Nat.{ℕ}
 use mathlib.Core.Path.{◌≡◌, sym, ap, ◌∙◌}
-use mathlib.Core.Bool.{true, false}
-use mathlib.Core.List.{List, [], ◌∷◌, ◌++◌}
+use mathlib.Core.List.{List}
 use native.Mathlib.Omega.{arith}
-use borrow.Author.Rules.{rules}
-use lib.ListN.{length, get_or, set, length-append}
-use Rattle.words.specs.Words.{within, scene_of}
-use Rattle.words.specs.declared.KeyRange.{KeyRange}
-use Rattle.slots.specs.Slots.{count_keys, laid, scenes_inside}
-use Rattle.slots.proofs.Laws.{laid_none, laid_one, laid-length, scenes_none, scenes_hit, scenes_miss, scenes-length, scenes_grow}
+use lib.ListN.{length}
+use Rattle.slots.specs.Slots.{laid}
+use Rattle.slots.proofs.Laws.{laid_none, scenes_none, scenes-length}
 use Rattle.slots.proofs.list_scenes.Goals as goal
-use Rattle.slots.proofs.list_scenes.Invariants.{Turn, turn, room, hit, miss}
+use Rattle.slots.proofs.list_scenes.Invariants.{turn, room, hit, miss}
 
 pub loop-i-init : goal.loop-i-init
 loop-i-init c =

@@ -4,12 +4,11 @@ use mathlib.Core.Path.{◌≡◌, sym, ap, ◌∙◌}
 use mathlib.Core.Bool.{true, false}
 use mathlib.Core.List.{List, [], ◌∷◌, ◌++◌}
 use native.Mathlib.Omega.{arith}
-use borrow.Author.Rules.{rules}
 use lib.ListN.{length, get_or, set, length-append}
 use Rattle.words.specs.Words.{within, scene_of}
 use Rattle.words.specs.declared.KeyRange.{KeyRange}
 use Rattle.slots.specs.Slots.{count_keys, laid, scenes_inside}
-use Rattle.slots.proofs.Laws.{laid_none, laid_one, laid-length, scenes_none, scenes_hit, scenes_miss, scenes-length, scenes_grow}
+use Rattle.slots.proofs.Laws.{laid_one, laid-length, scenes_hit, scenes_miss, scenes-length, scenes_grow}
 use Rattle.slots.proofs.list_scenes.Given as goal
 
 pub record Turn (keys : List ℕ) (n : ℕ) (r : KeyRange) (ids₀ ids : List ℕ) (i j : ℕ) : Type 0 where

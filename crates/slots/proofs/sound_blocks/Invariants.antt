@@ -1,12 +1,9 @@
 -- `slots::sound_blocks` meets its contract: each entry below i is sound. Assumes nothing.
 use Prim.Native.Nat.{◌≤◌, ◌-◌}
-use mathlib.Core.Path.{◌≡◌, sym, ◌∙◌}
-use mathlib.Core.Bool.{true, not}
-use native.Mathlib.Omega.{arith}
-use Rattle.words.proofs.Below.{every_block}
+use mathlib.Core.Path.{◌≡◌}
+use mathlib.Core.Bool.{true}
 use Rattle.words.specs.Below.{every_below}
 use Rattle.slots.specs.Slots.{entry_sound}
-use Rattle.slots.proofs.Laws.{four_any}
 use Rattle.slots.proofs.sound_blocks.Given as goal
 
 abbrev pub invariant-loop-i : goal.invariant-loop-i

@@ -1,12 +1,9 @@
 -- `slots::sound_from` meets its contract: each entry below i is sound. Assumes nothing.
 use Prim.Native.Nat.{◌≤◌, ◌-◌}
-use mathlib.Core.Path.{◌≡◌, sym, ◌∙◌}
+use mathlib.Core.Path.{◌≡◌}
 use mathlib.Core.Bool.{true}
-use native.Mathlib.Omega.{arith}
-use Rattle.words.proofs.Tests.{not_false, not_true}
-use Rattle.words.proofs.Below.{every_both, every_more, every_fails}
 use Rattle.words.specs.Below.{every_below}
-use Rattle.slots.specs.Slots.{keys_sound, lengths_sound, entry_sound}
+use Rattle.slots.specs.Slots.{entry_sound}
 use Rattle.slots.proofs.sound_from.Given as goal
 
 abbrev pub invariant-loop-i : goal.invariant-loop-i

@@ -1,5 +1,4 @@
 -- `slots::unsound_in_block` meets its contract. Assumes nothing.
-use borrow.Author.Rules.{rules}
 use Rattle.slots.proofs.unsound_in_block.Goals as goal
 
 pub returns : goal.returns

@@ -1,5 +1,5 @@
 -- `tlv_skip::skip` meets its contract. Assumes nothing.
-use mathlib.Core.Path.{◌≡◌, sym, ap, ◌∙◌}
+use mathlib.Core.Path.{sym, ap, ◌∙◌}
 use native.Mathlib.Omega.{arith}
 use Rattle.tlv.proofs.Heads.{element_on}
 use Rattle.tlv_skip.specs.Skipping.{past, behind}

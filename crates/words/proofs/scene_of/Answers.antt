@@ -1,6 +1,5 @@
 -- `words::scene_of` meets its contract. Assumes nothing.
 use mathlib.Core.Path.{refl}
-use borrow.Author.Rules.{rules}
 use Rattle.words.proofs.scene_of.Goals as goal
 
 pub returns : goal.returns

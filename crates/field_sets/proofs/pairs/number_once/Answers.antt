@@ -1,6 +1,5 @@
 -- `field_sets::pairs::number_once` meets its contract. Assumes nothing.
 use mathlib.Core.Path.{◌≡◌, sym, ◌∙◌}
-use borrow.Author.Rules.{rules}
 use borrow.Author.Tests.{lt-ltb, le-ltb}
 use Rattle.tlv.specs.declared.values.Number.TheVariants.{Value}
 use Rattle.tlv.specs.Types.{u64_type}

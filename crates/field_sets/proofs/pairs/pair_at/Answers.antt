@@ -1,6 +1,5 @@
 -- `field_sets::pairs::pair_at` meets its contract. Assumes nothing.
 use mathlib.Core.Path.{sym, ◌∙◌}
-use borrow.Author.Rules.{rules}
 use Rattle.field_sets.specs.Pairs.{pair_at}
 use Rattle.field_sets.proofs.pairs.pair_at.Goals as goal
 

@@ -1,5 +1,4 @@
 -- `field_sets::pairs::pair_of` meets its contract. Assumes nothing.
-use borrow.Author.Rules.{rules}
 use Rattle.field_sets.proofs.pairs.pair_of.Goals as goal
 
 pub returns : goal.returns

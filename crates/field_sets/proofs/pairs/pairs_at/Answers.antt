@@ -1,14 +1,10 @@
 -- `field_sets::pairs::pairs_at` meets its contract. Assumes nothing.
-use Prim.Native.Nat.{◌-◌, ◌≤◌}
 use mathlib.Core.Path.{◌≡◌, sym, ◌∙◌}
 use native.Mathlib.Omega.{arith}
-use borrow.Author.Rules.{rules}
-use lib.ListN.{length}
 use Rattle.tlv.specs.declared.elements.Parsed.TheVariants.{Whole}
 use Rattle.tlv.specs.Elements.{element_at}
 use Rattle.tlv.proofs.Heads.{element_on}
-use Rattle.field_sets.specs.Pairs.{pairs_at}
-use Rattle.field_sets.proofs.PairLaws.{pair_on, arrayed_from, array_broken, array-ends, array_goes, array_fails, array_begins}
+use Rattle.field_sets.proofs.PairLaws.{pair_on, array_broken, array-ends, array_goes, array_fails, array_begins}
 use Rattle.field_sets.proofs.pairs.pairs_at.Goals as goal
 
 pub loop-h-init : goal.loop-h-init

@@ -1,12 +1,9 @@
 -- `field_sets::reader::count_pairs` meets its contract. Assumes nothing.
 use Prim.Native.Nat.{◌-◌, ◌≤◌}
-use mathlib.Core.Path.{◌≡◌, sym, ◌∙◌}
-use native.Mathlib.Omega.{arith}
-use borrow.Author.Rules.{rules}
+use mathlib.Core.Path.{◌≡◌}
 use lib.ListN.{length}
 use Rattle.field_sets.specs.Reader.{total_of, sets_in}
-use Rattle.field_sets.proofs.SetLaws.{Within, set-within}
-use Rattle.field_sets.proofs.ReaderLaws.{total_from, total_ends, total_fails, total_goes, total_begins}
+use Rattle.field_sets.proofs.ReaderLaws.{total_from}
 use Rattle.field_sets.proofs.reader.count_pairs.Given as goal
 
 -- there are no more pairs than bytes in front

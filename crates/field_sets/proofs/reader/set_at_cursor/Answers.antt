@@ -1,6 +1,5 @@
 -- `field_sets::reader::set_at_cursor` meets its contract. Assumes nothing.
 use mathlib.Core.Path.{sym, ◌∙◌}
-use borrow.Author.Rules.{rules}
 use Rattle.field_sets.proofs.reader.set_at_cursor.Goals as goal
 
 pub returns-in-Set : goal.returns-in-Set

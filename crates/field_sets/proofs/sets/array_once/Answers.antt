@@ -1,5 +1,4 @@
 -- `field_sets::sets::array_once` meets its contract. Assumes nothing.
-use borrow.Author.Rules.{rules}
 use borrow.Author.Tests.{eq-eqb, ne_eqb}
 use Rattle.field_sets.proofs.sets.array_once.Goals as goal
 

@@ -1,6 +1,5 @@
 -- `field_sets::sets::next_set` meets its contract. Assumes nothing.
 use mathlib.Core.Path.{◌≡◌, sym, ◌∙◌}
-use borrow.Author.Rules.{rules}
 use borrow.Author.Tests.{eq-eqb, ne_eqb}
 use Rattle.tlv.specs.declared.elements.Parsed.TheVariants.{Whole}
 use Rattle.tlv.specs.Elements.{element_at}

@@ -1,6 +1,5 @@
 -- `field_sets::sets::set_at` meets its contract. Assumes nothing.
 use mathlib.Core.Path.{sym, ◌∙◌}
-use borrow.Author.Rules.{rules}
 use Rattle.field_sets.specs.Sets.{set_at}
 use Rattle.field_sets.proofs.sets.set_at.Goals as goal
 

@@ -1,5 +1,4 @@
 -- `field_sets::sets::whole_set` meets its contract. Assumes nothing.
-use borrow.Author.Rules.{rules}
 use Rattle.field_sets.proofs.sets.whole_set.Goals as goal
 
 pub returns : goal.returns

@@ -1,12 +1,8 @@
 -- `GroupsState::is_member` meets its contract: `any` says whether one of the words below i is the wanted one. Assumes nothing.
-use Prim.Native.Nat.{◌≤◌, ◌-◌}
 use mathlib.Core.Path.{◌≡◌, refl, sym, ap, ◌∙◌}
 use mathlib.Core.Bool.{Bool, not, ◌&&◌}
 use native.Mathlib.Omega.{arith}
-use borrow.Author.Rules.{rules}
 use lib.Dec.{eqb}
-use lib.ListN.{get_or}
-use Rattle.words.specs.Below.{any_below}
 use Rattle.words.proofs.Below.{any_none, any_next}
 use Rattle.groups.specs.Groups.{is_member}
 use Rattle.groups.proofs.GroupsState.is_member.Goals as goal

@@ -1,14 +1,9 @@
 -- `GroupsState::is_member` meets its contract: `any` says whether one of the words below i is the wanted one. Assumes nothing.
 use Prim.Native.Nat.{◌≤◌, ◌-◌}
-use mathlib.Core.Path.{◌≡◌, refl, sym, ap, ◌∙◌}
-use mathlib.Core.Bool.{Bool, not, ◌&&◌}
-use native.Mathlib.Omega.{arith}
-use borrow.Author.Rules.{rules}
+use mathlib.Core.Path.{◌≡◌}
 use lib.Dec.{eqb}
 use lib.ListN.{get_or}
 use Rattle.words.specs.Below.{any_below}
-use Rattle.words.proofs.Below.{any_none, any_next}
-use Rattle.groups.specs.Groups.{is_member}
 use Rattle.groups.proofs.GroupsState.is_member.Given as goal
 
 abbrev pub invariant-loop-i : goal.invariant-loop-i

@@ -1,13 +1,9 @@
 -- `GroupsState::is_sound` meets its contract: the counts fit, and it has looked at each word below i. Assumes nothing.
 use Prim.Native.Nat.{◌≤◌, ◌-◌}
-use mathlib.Core.Path.{◌≡◌, sym, ◌∙◌}
-use native.Mathlib.Omega.{arith}
-use borrow.Author.Rules.{rules}
+use mathlib.Core.Path.{◌≡◌}
 use lib.ListN.{get_or}
 use Rattle.words.specs.Below.{every_below}
-use Rattle.words.proofs.Below.{every_none, every_next}
 use Rattle.groups.specs.Groups.{group_sound}
-use Rattle.groups.proofs.Laws.{many_unsound, short-unsound, sound-words}
 use Rattle.groups.proofs.GroupsState.is_sound.Given as goal
 
 abbrev pub invariant-loop-i : goal.invariant-loop-i

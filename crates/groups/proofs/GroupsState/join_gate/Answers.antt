@@ -1,7 +1,6 @@
 -- `GroupsState::join_gate` meets its contract. Assumes nothing.
 use mathlib.Core.Path.{refl, sym, ◌∙◌}
-use borrow.Author.Rules.{rules}
-use borrow.Author.Tests.{eq-eqb, ne_eqb, not-true, not-false}
+use borrow.Author.Tests.{eq-eqb, ne_eqb}
 use Rattle.requests.specs.Requests.{first_refusal, or_next}
 use Rattle.groups.specs.Groups.{join_gate}
 use Rattle.groups.proofs.GroupsState.join_gate.Goals as goal

@@ -1,6 +1,5 @@
 -- `GroupsState::member` meets its contract. Assumes nothing.
 use mathlib.Core.Path.{refl, sym, ◌∙◌}
-use borrow.Author.Rules.{rules}
 use Rattle.groups.specs.Groups.{member_of}
 use Rattle.groups.proofs.GroupsState.member.Goals as goal
 

@@ -1,7 +1,5 @@
 -- `GroupsState::read` meets its contract: 6, then 1, then the answer. Assumes nothing.
 use mathlib.Core.Path.{sym, ◌∙◌}
-use borrow.Author.Rules.{rules}
-use borrow.Author.Tests.{not-true, not-false}
 use Rattle.groups.proofs.Laws.{groups_fit, read-unsound, read-refused, read_told}
 use Rattle.groups.proofs.GroupsState.read.Goals as goal
 

@@ -1,19 +1,17 @@
 -- `GroupsState::retain` meets its contract: the words kept of the first i stand in front, and the rest is as it came. Assumes nothing.
-use Prim.Native.Nat.{ℕ, ◌+◌, ◌-◌, ◌≤◌}
+use Prim.Native.Nat.{ℕ, ◌+◌}
 use mathlib.Core.Path.{◌≡◌, refl, sym, ap, ◌∙◌}
 use mathlib.Core.List.{List, [], ◌∷◌}
 use native.Mathlib.Omega.{arith}
-use borrow.Author.Rules.{rules}
 use lib.ListN.{length, get_or, set, length-append, length-set}
-use Rattle.words.specs.declared.KeyRange.{KeyRange}
 use Rattle.words.specs.Words.{within}
 use Rattle.slots.specs.Slots.{outside}
 use Rattle.slots.proofs.Laws.{outside_none, outside-keep, outside_skip}
 use Rattle.records.specs.Records.{moved}
-use Rattle.records.proofs.Laws.{moved_none, moved-past, moved_more}
+use Rattle.records.proofs.Laws.{moved_none, moved_more}
 use Rattle.groups.specs.Groups.{groups_of, with_held, retain_groups}
 use Rattle.groups.proofs.GroupsState.retain.Goals as goal
-use Rattle.groups.proofs.GroupsState.retain.Invariants.{Turn, here}
+use Rattle.groups.proofs.GroupsState.retain.Invariants.{here}
 
 pub loop-i-init : goal.loop-i-init
 loop-i-init c =

@@ -1,17 +1,13 @@
 -- `GroupsState::retain` meets its contract: the words kept of the first i stand in front, and the rest is as it came. Assumes nothing.
-use Prim.Native.Nat.{ℕ, ◌+◌, ◌-◌, ◌≤◌}
-use mathlib.Core.Path.{◌≡◌, refl, sym, ap, ◌∙◌}
-use mathlib.Core.List.{List, [], ◌∷◌}
+use Prim.Native.Nat.{ℕ, ◌-◌, ◌≤◌}
+use mathlib.Core.Path.{◌≡◌, ap, ◌∙◌}
+use mathlib.Core.List.{List}
 use native.Mathlib.Omega.{arith}
-use borrow.Author.Rules.{rules}
-use lib.ListN.{length, get_or, set, length-append, length-set}
+use lib.ListN.{length, get_or}
 use Rattle.words.specs.declared.KeyRange.{KeyRange}
-use Rattle.words.specs.Words.{within}
 use Rattle.slots.specs.Slots.{outside}
-use Rattle.slots.proofs.Laws.{outside_none, outside-keep, outside_skip}
 use Rattle.records.specs.Records.{moved}
-use Rattle.records.proofs.Laws.{moved_none, moved-past, moved_more}
-use Rattle.groups.specs.Groups.{groups_of, with_held, retain_groups}
+use Rattle.records.proofs.Laws.{moved-past}
 use Rattle.groups.proofs.GroupsState.retain.Given as goal
 
 pub record Turn (l : List ℕ) (n : ℕ) (range : KeyRange) (words : List ℕ) (i j : ℕ) : Type 0 where

@@ -1,15 +1,14 @@
 -- `image_writer::sizes::entries_len` meets its contract. Assumes nothing.
-use Prim.Native.Nat.{◌-◌, ◌≤◌}
+use Prim.Native.Nat.{◌≤◌}
 use mathlib.Core.Path.{◌≡◌, ap, ◌∙◌}
 use native.Mathlib.Omega.{arith}
-use borrow.Author.Rules.{rules}
 use lib.ListN.{length, get_or}
 use Rattle.words.specs.Constants.{max_fields}
 use Rattle.slots.specs.Slots.{Slots, slots_of, length_at}
 use Rattle.slots.proofs.View.{lengths_at}
 use Rattle.image_writer.specs.Image.{entry_length}
 use Rattle.image_writer.proofs.Firsts.{entries_up_to, entries_none, entries_more}
-use Rattle.image_writer.proofs.Lengths.{Counted, none_counted, one_counted, entry_at_length, entry_le}
+use Rattle.image_writer.proofs.Lengths.{none_counted, one_counted, entry_at_length, entry_le}
 use Rattle.image_writer.proofs.sizes.entries_len.Goals as goal
 
 pub loop-i-init : goal.loop-i-init

@@ -2,7 +2,6 @@
 use native.Mathlib.Omega.{arith}
 use Rattle.tlv.proofs.Codes.{number_size_le}
 use Rattle.image_writer.proofs.Lengths.{key_le}
-use borrow.Author.Rules.{rules}
 use Rattle.image_writer.proofs.sizes.entry_len.Goals as goal
 
 pub overflow_add-result : goal.overflow_add-result

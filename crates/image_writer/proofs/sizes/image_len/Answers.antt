@@ -2,7 +2,6 @@
 use Prim.Native.Nat.{◌+◌, ◌*◌, ◌≤◌}
 use mathlib.Core.Path.{◌∙◌}
 use native.Mathlib.Omega.{arith}
-use borrow.Author.Rules.{rules}
 use Rattle.slots.specs.Slots.{slots_of}
 use Rattle.image_writer.proofs.Lengths.{entries_le, records_le, image-length}
 use Rattle.image_writer.proofs.sizes.image_len.Goals as goal

@@ -4,7 +4,6 @@ use mathlib.Core.Path.{ap, ◌∙◌}
 use native.Mathlib.Omega.{arith}
 use Rattle.tlv.specs.Encoding.{number_size}
 use Rattle.tlv.proofs.Codes.{number_size_le}
-use borrow.Author.Rules.{rules}
 use Rattle.image_writer.proofs.sizes.key_len.Goals as goal
 
 pub overflow_add-result : goal.overflow_add-result

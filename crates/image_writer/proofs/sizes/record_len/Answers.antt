@@ -1,7 +1,6 @@
 -- `image_writer::sizes::record_len` meets its contract. Assumes nothing.
 use native.Mathlib.Omega.{arith}
 use Rattle.image_writer.proofs.Lengths.{key_le}
-use borrow.Author.Rules.{rules}
 use Rattle.image_writer.proofs.sizes.record_len.Goals as goal
 
 pub overflow_add-result : goal.overflow_add-result

@@ -1,11 +1,10 @@
 -- `image_writer::sizes::records_len` meets its contract. Assumes nothing.
-use Prim.Native.Nat.{ℕ, ◌-◌, ◌≤◌}
+use Prim.Native.Nat.{ℕ}
 use mathlib.Core.Path.{◌≡◌, sym, ap, ◌∙◌}
 use native.Mathlib.Omega.{arith}
-use borrow.Author.Rules.{rules}
 use lib.ListN.{length, get_or}
 use Rattle.image_writer.proofs.Firsts.{records_up_to, records_none, records_more}
-use Rattle.image_writer.proofs.Lengths.{Counted, none_counted, one_counted, record_length_lem, record_le}
+use Rattle.image_writer.proofs.Lengths.{none_counted, one_counted, record_length_lem, record_le}
 use Rattle.image_writer.proofs.sizes.records_len.Goals as goal
 
 pub loop-i-init : goal.loop-i-init

@@ -1,10 +1,9 @@
 -- `image_writer::writing::put_entries` meets its contract. Assumes nothing.
-use Prim.Native.Nat.{ℕ, ◌-◌, ◌≤◌}
+use Prim.Native.Nat.{ℕ}
 use mathlib.Core.Path.{◌≡◌, refl, ap, ◌∙◌}
 use mathlib.Core.List.{List}
 use native.Mathlib.Omega.{arith}
-use borrow.Author.Rules.{rules}
-use lib.ListN.{length, get_or}
+use lib.ListN.{get_or}
 use Rattle.slots.specs.Slots.{Slots, slots_of}
 use Rattle.slots.proofs.View.{lengths_at}
 use Rattle.text_output.specs.Writing.{sheet, puts}

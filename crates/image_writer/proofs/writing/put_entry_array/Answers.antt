@@ -1,6 +1,5 @@
 -- `image_writer::writing::put_entry_array` meets its contract. Assumes nothing.
 use Rattle.text_output.proofs.Writing.{then}
-use borrow.Author.Rules.{rules}
 use Rattle.image_writer.proofs.writing.put_entry_array.Goals as goal
 
 pub returns : goal.returns

@@ -1,7 +1,6 @@
 -- `image_writer::writing::put_image` meets its contract. Assumes nothing.
 use Rattle.text_output.proofs.Writing.{then}
 use Rattle.image_writer.specs.Image.{image_bytes}
-use borrow.Author.Rules.{rules}
 use Rattle.image_writer.proofs.writing.put_image.Goals as goal
 
 pub returns : goal.returns

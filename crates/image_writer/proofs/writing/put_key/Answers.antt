@@ -2,7 +2,6 @@
 use Rattle.text_output.proofs.Writing.{then}
 use Rattle.tlv.proofs.Codes.{put_same}
 use Rattle.tlv.specs.Encoding.{number_bytes}
-use borrow.Author.Rules.{rules}
 use Rattle.image_writer.proofs.writing.put_key.Goals as goal
 
 pub returns : goal.returns

@@ -3,7 +3,6 @@ use Rattle.text_output.proofs.Writing.{then}
 use Rattle.tlv.proofs.Codes.{put_same}
 use Rattle.tlv.specs.Encoding.{bool_bytes}
 use Rattle.image_writer.specs.Image.{key_bytes}
-use borrow.Author.Rules.{rules}
 use Rattle.image_writer.proofs.writing.put_record.Goals as goal
 
 pub returns : goal.returns

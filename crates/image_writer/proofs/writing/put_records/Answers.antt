@@ -1,9 +1,6 @@
 -- `image_writer::writing::put_records` meets its contract. Assumes nothing.
-use Prim.Native.Nat.{◌-◌, ◌≤◌}
 use mathlib.Core.Path.{◌≡◌, refl, ap, ◌∙◌}
 use native.Mathlib.Omega.{arith}
-use borrow.Author.Rules.{rules}
-use lib.ListN.{length}
 use Rattle.text_output.specs.Writing.{sheet, puts}
 use Rattle.image_writer.proofs.Firsts.{records_up_to, records_none, records_more, put_more, put_none}
 use Rattle.image_writer.proofs.writing.put_records.Goals as goal

@@ -1,11 +1,9 @@
 -- `image_writer::writing::put_records` meets its contract. Assumes nothing.
 use Prim.Native.Nat.{◌-◌, ◌≤◌}
-use mathlib.Core.Path.{◌≡◌, refl, ap, ◌∙◌}
-use native.Mathlib.Omega.{arith}
-use borrow.Author.Rules.{rules}
+use mathlib.Core.Path.{◌≡◌}
 use lib.ListN.{length}
 use Rattle.text_output.specs.Writing.{sheet, puts}
-use Rattle.image_writer.proofs.Firsts.{records_up_to, records_none, records_more, put_more, put_none}
+use Rattle.image_writer.proofs.Firsts.{records_up_to}
 use Rattle.image_writer.proofs.writing.put_records.Given as goal
 
 -- the first i records stand behind one another

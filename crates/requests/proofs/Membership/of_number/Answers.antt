@@ -1,7 +1,6 @@
 -- `requests::Membership::of_number` meets its contract. Assumes nothing.
 use mathlib.Core.Path.{refl}
 use borrow.Author.Rules.{rules}
-use borrow.Author.Tests.{ne_eqb}
 use Rattle.requests.specs.Requests.{membership_of}
 use Rattle.requests.proofs.Membership.of_number.Goals as goal
 

@@ -1,7 +1,6 @@
 -- `script_lines::reader::is_known` meets its contract. Assumes nothing.
 use mathlib.Core.Path.{sym, ◌∙◌}
 use Rattle.script_lines.specs.Lines.{known}
-use borrow.Author.Rules.{rules}
 use Rattle.script_lines.proofs.reader.is_known.Goals as goal
 
 pub returns-then-one_of : goal.returns-then-one_of

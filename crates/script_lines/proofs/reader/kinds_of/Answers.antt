@@ -1,6 +1,5 @@
 -- `script_lines::reader::kinds_of` meets its contract. Assumes nothing.
-use mathlib.Core.Logic.{⊎_elim, inl, inr}
-use borrow.Author.Tests.{ne_eqb}
+use mathlib.Core.Logic.{⊎_elim}
 use Rattle.script_lines.specs.Lines.{one_of, kinds_of}
 use borrow.Author.Rules.{rules}
 use borrow.Author.Tests.{tests}

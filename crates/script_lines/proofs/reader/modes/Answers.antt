@@ -1,7 +1,6 @@
 -- `script_lines::reader::modes` meets its contract. Assumes nothing.
 use borrow.Author.Tests.{eq-eqb, ne_eqb}
 use Rattle.script_lines.specs.Lines.{modes_of}
-use borrow.Author.Rules.{rules}
 use Rattle.script_lines.proofs.reader.modes.Goals as goal
 
 pub returns-then-word-eq0 : goal.returns-then-word-eq0

@@ -1,9 +1,5 @@
 -- `script_lines::reader::one_of` meets its contract. Assumes nothing.
-use Prim.Native.Nat.{◌-◌}
-use mathlib.Core.Path.{◌≡◌, refl, sym, ◌∙◌}
-use native.Mathlib.Omega.{arith}
-use lib.ListN.{length, drop}
-use Rattle.script_lines.specs.Lines.{one_of}
+use mathlib.Core.Path.{refl, sym, ◌∙◌}
 use Rattle.script_lines.proofs.Letters.{of_found, of_next, of_end}
 use Rattle.script_lines.proofs.reader.one_of.Goals as goal
 

@@ -1,10 +1,8 @@
 -- `script_lines::reader::one_of` meets its contract. Assumes nothing.
 use Prim.Native.Nat.{◌-◌}
-use mathlib.Core.Path.{◌≡◌, refl, sym, ◌∙◌}
-use native.Mathlib.Omega.{arith}
+use mathlib.Core.Path.{◌≡◌}
 use lib.ListN.{length, drop}
 use Rattle.script_lines.specs.Lines.{one_of}
-use Rattle.script_lines.proofs.Letters.{of_found, of_next, of_end}
 use Rattle.script_lines.proofs.reader.one_of.Given as goal
 
 abbrev pub invariant-loop-i : goal.invariant-loop-i

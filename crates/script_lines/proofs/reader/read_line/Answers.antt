@@ -6,7 +6,6 @@ use lib.ListN.{get_or, take, drop}
 use Rattle.script_lines.specs.declared.reader.Verdict.{Verdict}
 use Rattle.script_lines.specs.Lines.{kinds_of, Said, verdict_says, words_say, words_left}
 use Rattle.script_lines.proofs.LineLaws.{left-blank, left_comment, left-long, left_unknown, left_letter, says-blank, says_comment, says_unknown, says_letter, letter_known, letter_unknown}
-use borrow.Author.Rules.{rules}
 use Rattle.script_lines.proofs.reader.read_line.Goals as goal
 
 pub returns-then-line-from : goal.returns-then-line-from

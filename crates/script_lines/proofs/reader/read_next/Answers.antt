@@ -10,7 +10,6 @@ use Rattle.text_input.specs.Reading.{Turned}
 use Rattle.text_input.proofs.Reading.{word-start, word_end}
 use Rattle.script_lines.specs.Lines.{read_as, word_says}
 use Rattle.script_lines.proofs.LineLaws.{word_is}
-use borrow.Author.Rules.{rules}
 use Rattle.script_lines.proofs.reader.read_next.Goals as goal
 
 pub slice_bounds-read_word-count : goal.slice_bounds-read_word-count

@@ -5,7 +5,6 @@ use mathlib.Core.List.{List}
 use borrow.Author.Tests.{eq-eqb, ne_eqb}
 use Rattle.text_input.specs.Reading.{number_of, or_dash, digit_bytes, hex_pairs}
 use Rattle.script_lines.proofs.LineLaws.{number_read, spelling-read}
-use borrow.Author.Rules.{rules}
 use Rattle.script_lines.proofs.reader.read_word.Goals as goal
 
 pub returns-then-word-eq0 : goal.returns-then-word-eq0

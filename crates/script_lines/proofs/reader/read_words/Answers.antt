@@ -1,5 +1,5 @@
 -- `script_lines::reader::read_words` meets its contract. Assumes nothing.
-use Prim.Native.Nat.{ℕ, ◌-◌, ◌≤◌, ◌<◌}
+use Prim.Native.Nat.{ℕ, ◌≤◌, ◌<◌}
 use mathlib.Core.Path.{◌≡◌, refl, sym, ap, subst, ◌∙◌}
 use mathlib.Core.List.{List, [], ◌++◌, map}
 use native.Mathlib.Omega.{arith}
@@ -8,7 +8,7 @@ use Rattle.words.specs.Below.{positions}
 use Rattle.script_lines.specs.declared.reader.Kind.{Kind}
 use Rattle.script_lines.specs.declared.reader.Verdict.{Verdict}
 use Rattle.script_lines.specs.Lines.{words_say, Call, words_left, word_read, verdict_says}
-use Rattle.script_lines.proofs.LineLaws.{Says, reads-within, words-start, words_end, words-wrong, words_more, left_end, left-wrong, left_more, kinds_length}
+use Rattle.script_lines.proofs.LineLaws.{reads-within, words-start, words_end, words-wrong, words_more, left_end, left-wrong, left_more, kinds_length}
 use Rattle.script_lines.proofs.reader.read_words.Goals as goal
 
 pub loop-i-init : goal.loop-i-init

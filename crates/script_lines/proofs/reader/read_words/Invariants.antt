@@ -1,14 +1,10 @@
 -- `script_lines::reader::read_words` meets its contract. Assumes nothing.
-use Prim.Native.Nat.{ℕ, ◌-◌, ◌≤◌, ◌<◌}
-use mathlib.Core.Path.{◌≡◌, refl, sym, ap, subst, ◌∙◌}
-use mathlib.Core.List.{List, [], ◌++◌, map}
-use native.Mathlib.Omega.{arith}
-use lib.ListN.{length, take, drop, length-set}
-use Rattle.words.specs.Below.{positions}
-use Rattle.script_lines.specs.declared.reader.Kind.{Kind}
-use Rattle.script_lines.specs.declared.reader.Verdict.{Verdict}
-use Rattle.script_lines.specs.Lines.{words_say, Call, words_left, word_read, verdict_says}
-use Rattle.script_lines.proofs.LineLaws.{Says, reads-within, words-start, words_end, words-wrong, words_more, left_end, left-wrong, left_more, kinds_length}
+use Prim.Native.Nat.{◌-◌, ◌≤◌}
+use mathlib.Core.Path.{◌≡◌}
+use mathlib.Core.List.{◌++◌}
+use lib.ListN.{length, take, drop}
+use Rattle.script_lines.specs.Lines.{words_left}
+use Rattle.script_lines.proofs.LineLaws.{Says}
 use Rattle.script_lines.proofs.reader.read_words.Given as goal
 
 abbrev pub invariant-loop-i : goal.invariant-loop-i

@@ -1,7 +1,6 @@
 -- `script_lines::reader::transition` meets its contract. Assumes nothing.
 use mathlib.Core.Path.{sym, ◌∙◌}
 use Rattle.script_lines.specs.Lines.{override_of}
-use borrow.Author.Rules.{rules}
 use Rattle.script_lines.proofs.reader.transition.Goals as goal
 
 pub returns-then-same : goal.returns-then-same

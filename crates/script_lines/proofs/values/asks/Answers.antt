@@ -2,7 +2,6 @@
 use mathlib.Core.Path.{sym, ◌∙◌}
 use borrow.Author.Tests.{eq-eqb, ne_eqb}
 use Rattle.script_lines.specs.Values.{asking}
-use borrow.Author.Rules.{rules}
 use Rattle.script_lines.proofs.values.asks.Goals as goal
 
 pub returns-then-one_of : goal.returns-then-one_of

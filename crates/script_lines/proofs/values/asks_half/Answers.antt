@@ -2,7 +2,6 @@
 use borrow.Author.Tests.{eq-eqb, ne_eqb}
 use Rattle.script_lines.specs.Lines.{asks}
 use Rattle.script_lines.specs.Values.{half_asking}
-use borrow.Author.Rules.{rules}
 use Rattle.script_lines.proofs.values.asks_half.Goals as goal
 
 pub returns-then-read-eq-ASKS : goal.returns-then-read-eq-ASKS

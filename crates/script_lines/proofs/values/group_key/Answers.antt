@@ -1,5 +1,4 @@
 -- `script_lines::values::group_key` meets its contract. Assumes nothing.
-use borrow.Author.Rules.{rules}
 use Rattle.script_lines.proofs.values.group_key.Goals as goal
 
 pub returns : goal.returns

@@ -1,7 +1,6 @@
 -- `script_lines::values::member` meets its contract. Assumes nothing.
 use mathlib.Core.Path.{ap, ◌∙◌}
 use Rattle.requests.specs.Requests.{membership_of}
-use borrow.Author.Rules.{rules}
 use Rattle.script_lines.proofs.values.member.Goals as goal
 
 pub returns : goal.returns

@@ -1,5 +1,4 @@
 -- `ScenesState::bump_info_dataver` meets its contract. Assumes nothing.
-use Rattle.std.proofs.Common.{rules}
 use Rattle.state.proofs.ScenesState.bump_info_dataver.Goals as goal
 
 pub returns : goal.returns

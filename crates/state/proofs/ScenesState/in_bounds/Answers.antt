@@ -1,5 +1,5 @@
 -- `ScenesState::inBounds` meets its contract. Assumes nothing.
-use Rattle.std.proofs.Common.{rules, le-leb}
+use Rattle.std.proofs.Common.{le-leb}
 use borrow.Author.Tests.{lt-leb}
 use Rattle.words.specs.Conditions.{all_of}
 use Rattle.state.specs.Sound.{in_bounds}

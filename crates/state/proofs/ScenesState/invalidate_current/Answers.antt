@@ -1,5 +1,5 @@
 -- `ScenesState::invalidate_current` meets its contract. Assumes nothing.
-use Rattle.std.proofs.Common.{sym, ap, ◌∙◌, rules}
+use Rattle.std.proofs.Common.{sym, ap, ◌∙◌}
 use Rattle.state.specs.declared.ScenesState.{ScenesState}
 use Rattle.state.specs.Table.{current_of, bump_if}
 use Rattle.state.specs.Current.{invalidate_current}

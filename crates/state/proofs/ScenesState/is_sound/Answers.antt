@@ -1,5 +1,5 @@
 -- `ScenesState::is_sound` meets its contract. Assumes nothing.
-use Rattle.std.proofs.Common.{◌≡◌, Bool, true, false, ◌&&◌, [], ◌∷◌, sym, ◌∙◌, arith, rules}
+use Rattle.std.proofs.Common.{◌≡◌, Bool, true, false, ◌&&◌, [], ◌∷◌, sym, ◌∙◌, arith}
 use Rattle.words.specs.Conditions.{all_of}
 use Rattle.words.proofs.Tests.{and_left, and_right, and_fails, and_true}
 use Rattle.state.specs.Sound.{sound}

@@ -1,5 +1,5 @@
 -- `ScenesState::may_append` meets its contract. Assumes nothing.
-use Rattle.std.proofs.Common.{ltb, sym, ap, ◌∙◌, rules}
+use Rattle.std.proofs.Common.{ltb, sym, ap, ◌∙◌}
 use Rattle.state.proofs.Capacity.{may_free, may_share}
 use Rattle.state.proofs.ScenesState.may_append.Goals as goal
 

@@ -1,5 +1,4 @@
 -- `ScenesState::new` meets its contract. Assumes nothing.
-use Rattle.std.proofs.Common.{rules}
 use Rattle.state.proofs.ScenesState.new.Goals as goal
 
 pub returns : goal.returns

@@ -1,5 +1,5 @@
 -- `ScenesState::place` meets its contract. Assumes nothing.
-use Rattle.std.proofs.Common.{sym, ◌∙◌, rules}
+use Rattle.std.proofs.Common.{sym, ◌∙◌}
 use Rattle.state.specs.Capacity.{place_for}
 use Rattle.state.proofs.ScenesState.place.Goals as goal
 

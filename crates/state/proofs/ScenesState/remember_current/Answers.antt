@@ -1,5 +1,5 @@
 -- `ScenesState::remember_current` meets its contract. Assumes nothing.
-use Rattle.std.proofs.Common.{true, ap, ◌∙◌, rules}
+use Rattle.std.proofs.Common.{true, ap, ◌∙◌}
 use Rattle.records.specs.Records.{Records}
 use Rattle.state.specs.Table.{current_of, bump_if, with_record_count}
 use Rattle.state.specs.Current.{remember_current}

@@ -1,7 +1,6 @@
 -- `ScenesState::retain` meets its contract. Assumes nothing.
 use Rattle.state.specs.Table.{with_entry_count}
 use Rattle.state.specs.Change.{retain_outside}
-use Rattle.std.proofs.Common.{rules}
 use Rattle.state.proofs.ScenesState.retain.Goals as goal
 
 pub returns : goal.returns

@@ -1,5 +1,5 @@
 -- `ScenesState::room_for_fab` meets its contract. Assumes nothing.
-use Rattle.std.proofs.Common.{ℕ, ◌-◌, ◌/◌, min, ap, ◌∙◌, arith, rules}
+use Rattle.std.proofs.Common.{ℕ, ◌-◌, ◌/◌, min, ap, ◌∙◌, arith}
 use Rattle.state.specs.Capacity.{room_for}
 use Rattle.state.proofs.ScenesState.room_for_fab.Goals as goal
 

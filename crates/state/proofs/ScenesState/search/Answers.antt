@@ -1,5 +1,5 @@
 -- `ScenesState::search` meets its contract. Assumes nothing.
-use Rattle.std.proofs.Common.{◌≡◌, Bool, true, false, ◌&&◌, [], ◌∷◌, sym, ◌∙◌, arith, rules}
+use Rattle.std.proofs.Common.{◌≡◌, Bool, true, false, ◌&&◌, [], ◌∷◌, sym, ◌∙◌, arith}
 use Rattle.words.specs.Conditions.{all_of}
 use Rattle.words.proofs.Tests.{and_true, and_false}
 use Rattle.state.specs.Sound.{sound}

@@ -1,5 +1,5 @@
 -- `ScenesState::swap_remove` meets its contract. Assumes nothing.
-use Rattle.std.proofs.Common.{◌-◌, rules}
+use Rattle.std.proofs.Common.{◌-◌}
 use Rattle.state.specs.Table.{with_entry_count}
 use Rattle.state.specs.Change.{swap_remove}
 use Rattle.state.proofs.ScenesState.swap_remove.Goals as goal

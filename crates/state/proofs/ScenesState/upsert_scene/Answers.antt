@@ -1,5 +1,5 @@
 -- `ScenesState::upsert_scene` meets its contract. Assumes nothing.
-use Rattle.std.proofs.Common.{◌≡◌, ◌<◌, sym, ap, ◌∙◌, arith, rules}
+use Rattle.std.proofs.Common.{◌≡◌, ◌<◌, sym, ap, ◌∙◌, arith}
 use Rattle.words.specs.declared.Found.TheVariants.{At}
 use Rattle.records.specs.declared.Scope.TheVariants.{Scene}
 use Rattle.state.specs.declared.ScenesState.{ScenesState}

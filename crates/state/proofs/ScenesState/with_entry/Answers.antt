@@ -1,5 +1,5 @@
 -- `ScenesState::with_entry` meets its contract. Assumes nothing.
-use Rattle.std.proofs.Common.{rules, eq-eqb, ne_eqb}
+use Rattle.std.proofs.Common.{eq-eqb, ne_eqb}
 use Rattle.state.proofs.ScenesState.with_entry.Goals as goal
 
 pub returns-then-at-self : goal.returns-then-at-self

@@ -1,9 +1,6 @@
 -- `text_input::input::all_digits` meets its contract. Assumes nothing.
-use Prim.Native.Nat.{◌-◌}
-use mathlib.Core.Path.{◌≡◌, refl, sym, ◌∙◌}
+use mathlib.Core.Path.{refl, sym, ◌∙◌}
 use native.Mathlib.Omega.{arith}
-use lib.ListN.{length, drop}
-use Rattle.text_input.specs.Reading.{all_digits}
 use Rattle.text_input.proofs.Reading.{all_digits_end, all_digits_bad, all_digits_next}
 use Rattle.text_input.proofs.input.all_digits.Goals as goal
 

@@ -1,9 +1,6 @@
 -- `text_input::input::all_pairs` meets its contract. Assumes nothing.
-use Prim.Native.Nat.{◌-◌, ◌*◌, ◌≤◌}
-use mathlib.Core.Path.{◌≡◌, refl, sym, ◌∙◌}
+use mathlib.Core.Path.{refl, sym, ◌∙◌}
 use native.Mathlib.Omega.{arith}
-use lib.ListN.{drop}
-use Rattle.text_input.specs.Reading.{all_pairs}
 use Rattle.text_input.proofs.Reading.{all_pairs_rest, all_pairs_high, all_pairs_low, all_pairs_next}
 use Rattle.text_input.proofs.input.all_pairs.Goals as goal
 

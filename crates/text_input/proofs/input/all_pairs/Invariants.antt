@@ -1,10 +1,8 @@
 -- `text_input::input::all_pairs` meets its contract. Assumes nothing.
 use Prim.Native.Nat.{◌-◌, ◌*◌, ◌≤◌}
-use mathlib.Core.Path.{◌≡◌, refl, sym, ◌∙◌}
-use native.Mathlib.Omega.{arith}
+use mathlib.Core.Path.{◌≡◌}
 use lib.ListN.{drop}
 use Rattle.text_input.specs.Reading.{all_pairs}
-use Rattle.text_input.proofs.Reading.{all_pairs_rest, all_pairs_high, all_pairs_low, all_pairs_next}
 use Rattle.text_input.proofs.input.all_pairs.Given as goal
 
 abbrev pub invariant-loop-i : goal.invariant-loop-i

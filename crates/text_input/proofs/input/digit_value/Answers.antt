@@ -1,7 +1,6 @@
 -- `text_input::input::digit_value` meets its contract. Assumes nothing.
 use borrow.Author.Tests.{le-leb, lt-leb, lt-ltb, le-ltb}
 use Rattle.text_input.specs.Reading.{digit_value}
-use borrow.Author.Rules.{rules}
 use Rattle.text_input.proofs.input.digit_value.Goals as goal
 
 pub returns-then-b-lt48 : goal.returns-then-b-lt48

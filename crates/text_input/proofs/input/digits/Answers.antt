@@ -1,7 +1,6 @@
 -- `text_input::input::digits` meets its contract. Assumes nothing.
 use mathlib.Core.Path.{sym, ◌∙◌}
 use borrow.Author.Tests.{eq-eqb, ne_eqb}
-use borrow.Author.Rules.{rules}
 use Rattle.text_input.specs.Reading.{or_dash}
 use Rattle.text_input.proofs.input.digits.Goals as goal
 

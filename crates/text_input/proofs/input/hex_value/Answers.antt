@@ -2,7 +2,6 @@
 use native.Mathlib.Omega.{arith}
 use borrow.Author.Tests.{le-leb, lt-leb, lt-ltb, le-ltb}
 use Rattle.text_input.specs.Reading.{hex_value}
-use borrow.Author.Rules.{rules}
 use Rattle.text_input.proofs.input.hex_value.Goals as goal
 
 pub returns-then-b-lt48 : goal.returns-then-b-lt48

@@ -1,10 +1,7 @@
 -- `text_input::input::lay_digits` meets its contract. Assumes nothing.
-use Prim.Native.Nat.{◌-◌, ◌≤◌}
-use mathlib.Core.Path.{◌≡◌, refl, ◌∙◌}
-use mathlib.Core.List.{map, ◌++◌}
+use mathlib.Core.Path.{refl, ◌∙◌}
 use native.Mathlib.Omega.{arith}
-use lib.ListN.{length, take, drop, length-set}
-use Rattle.text_input.specs.Reading.{digit_value}
+use lib.ListN.{length-set}
 use Rattle.text_input.proofs.Reading.{laid_end, behind-set, digits_end, digits_next}
 use Rattle.text_input.proofs.input.lay_digits.Goals as goal
 

@@ -1,11 +1,9 @@
 -- `text_input::input::lay_digits` meets its contract. Assumes nothing.
 use Prim.Native.Nat.{◌-◌, ◌≤◌}
-use mathlib.Core.Path.{◌≡◌, refl, ◌∙◌}
+use mathlib.Core.Path.{◌≡◌}
 use mathlib.Core.List.{map, ◌++◌}
-use native.Mathlib.Omega.{arith}
-use lib.ListN.{length, take, drop, length-set}
+use lib.ListN.{length, take, drop}
 use Rattle.text_input.specs.Reading.{digit_value}
-use Rattle.text_input.proofs.Reading.{laid_end, behind-set, digits_end, digits_next}
 use Rattle.text_input.proofs.input.lay_digits.Given as goal
 
 abbrev pub invariant-loop-i : goal.invariant-loop-i

@@ -1,11 +1,9 @@
 -- `text_input::input::lay_pairs` meets its contract. Assumes nothing.
-use Prim.Native.Nat.{ℕ, ◌*◌, ◌-◌, ◌/◌, ◌≤◌}
+use Prim.Native.Nat.{ℕ, ◌/◌}
 use mathlib.Core.Path.{◌≡◌, refl, ap, ◌∙◌}
-use mathlib.Core.Bool.{true}
-use mathlib.Core.List.{◌++◌}
 use native.Mathlib.Omega.{arith}
-use lib.ListN.{length, take, drop, length-set}
-use Rattle.text_input.specs.Reading.{all_pairs, pair_bytes, turned}
+use lib.ListN.{length, length-set}
+use Rattle.text_input.specs.Reading.{turned}
 use Rattle.text_input.specs.declared.input.Word.TheVariants.{Value}
 use Rattle.text_input.proofs.Reading.{laid_end, behind-set, pairs_are, pairs_next, pairs_end, pairs_rest}
 use Rattle.text_input.proofs.input.lay_pairs.Goals as goal

@@ -1,13 +1,10 @@
 -- `text_input::input::lay_pairs` meets its contract. Assumes nothing.
-use Prim.Native.Nat.{ℕ, ◌*◌, ◌-◌, ◌/◌, ◌≤◌}
-use mathlib.Core.Path.{◌≡◌, refl, ap, ◌∙◌}
+use Prim.Native.Nat.{◌*◌, ◌-◌, ◌≤◌}
+use mathlib.Core.Path.{◌≡◌}
 use mathlib.Core.Bool.{true}
 use mathlib.Core.List.{◌++◌}
-use native.Mathlib.Omega.{arith}
-use lib.ListN.{length, take, drop, length-set}
-use Rattle.text_input.specs.Reading.{all_pairs, pair_bytes, turned}
-use Rattle.text_input.specs.declared.input.Word.TheVariants.{Value}
-use Rattle.text_input.proofs.Reading.{laid_end, behind-set, pairs_are, pairs_next, pairs_end, pairs_rest}
+use lib.ListN.{length, take, drop}
+use Rattle.text_input.specs.Reading.{all_pairs, pair_bytes}
 use Rattle.text_input.proofs.input.lay_pairs.Given as goal
 
 abbrev pub invariant-loop-i : goal.invariant-loop-i

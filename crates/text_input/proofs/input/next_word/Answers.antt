@@ -1,5 +1,4 @@
 -- `text_input::input::next_word` meets its contract. Assumes nothing.
-use borrow.Author.Rules.{rules}
 use Rattle.text_input.proofs.input.next_word.Goals as goal
 
 pub returns : goal.returns

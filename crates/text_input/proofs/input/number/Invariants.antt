@@ -1,11 +1,8 @@
 -- `text_input::input::number` meets its contract. Assumes nothing.
 use Prim.Native.Nat.{◌-◌}
-use mathlib.Core.Path.{◌≡◌, sym, ◌∙◌}
-use native.Mathlib.Omega.{arith}
+use mathlib.Core.Path.{◌≡◌}
 use lib.ListN.{length, drop}
-use borrow.Author.Tests.{eq-eqb, ne_eqb}
 use Rattle.text_input.specs.Reading.{number_of, number_from}
-use Rattle.text_input.proofs.Reading.{number_end, number_bad, number_large, number-next}
 use Rattle.text_input.proofs.input.number.Given as goal
 
 abbrev pub invariant-loop-i : goal.invariant-loop-i

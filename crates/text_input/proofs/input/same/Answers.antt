@@ -1,9 +1,6 @@
 -- `text_input::input::same` meets its contract. Assumes nothing.
-use Prim.Native.Nat.{◌-◌}
-use mathlib.Core.Path.{◌≡◌, refl, sym, ◌∙◌}
+use mathlib.Core.Path.{refl, sym, ◌∙◌}
 use native.Mathlib.Omega.{arith}
-use lib.ListN.{length, drop}
-use Rattle.text_input.specs.Reading.{same}
 use Rattle.text_input.proofs.Reading.{same-lengths, same_end, same-other, same_next}
 use Rattle.text_input.proofs.input.same.Goals as goal
 

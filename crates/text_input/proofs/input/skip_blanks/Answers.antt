@@ -1,9 +1,6 @@
 -- `text_input::input::skip_blanks` meets its contract. Assumes nothing.
-use Prim.Native.Nat.{◌-◌}
-use mathlib.Core.Path.{◌≡◌, refl, sym, ◌∙◌}
-use native.Mathlib.Omega.{arith}
-use lib.ListN.{length}
-use Rattle.text_input.specs.Reading.{blank, past}
+use mathlib.Core.Path.{refl, sym, ◌∙◌}
+use Rattle.text_input.specs.Reading.{blank}
 use Rattle.text_input.proofs.Reading.{past_next, past_stop, past_end}
 use Rattle.text_input.proofs.input.skip_blanks.Goals as goal
 

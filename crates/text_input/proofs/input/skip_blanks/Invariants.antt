@@ -1,10 +1,8 @@
 -- `text_input::input::skip_blanks` meets its contract. Assumes nothing.
 use Prim.Native.Nat.{◌-◌}
-use mathlib.Core.Path.{◌≡◌, refl, sym, ◌∙◌}
-use native.Mathlib.Omega.{arith}
+use mathlib.Core.Path.{◌≡◌}
 use lib.ListN.{length}
 use Rattle.text_input.specs.Reading.{blank, past}
-use Rattle.text_input.proofs.Reading.{past_next, past_stop, past_end}
 use Rattle.text_input.proofs.input.skip_blanks.Given as goal
 
 abbrev pub invariant-loop-i : goal.invariant-loop-i

@@ -1,11 +1,8 @@
 -- `text_input::input::skip_word` meets its contract. Assumes nothing.
 use Prim.Native.Nat.{◌-◌}
-use mathlib.Core.Path.{◌≡◌, refl, sym, ap, ◌∙◌}
-use mathlib.Core.Bool.{not}
-use native.Mathlib.Omega.{arith}
+use mathlib.Core.Path.{◌≡◌}
 use lib.ListN.{length}
 use Rattle.text_input.specs.Reading.{in_word, past}
-use Rattle.text_input.proofs.Reading.{past_next, past_stop, past_end}
 use Rattle.text_input.proofs.input.skip_word.Given as goal
 
 abbrev pub invariant-loop-i : goal.invariant-loop-i

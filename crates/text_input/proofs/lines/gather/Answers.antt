@@ -1,12 +1,10 @@
 -- `text_input::lines::gather` meets its contract. Assumes nothing.
-use Prim.Native.Nat.{◌-◌}
-use mathlib.Core.Path.{◌≡◌, refl, sym, ap, ◌∙◌}
+use mathlib.Core.Path.{refl, sym, ap, ◌∙◌}
 use mathlib.Core.Bool.{not}
 use native.Mathlib.Omega.{arith}
 use lib.ListN.{length}
-use lib.Seq.{slice}
 use borrow.Author.Tests.{eq-eqb, ne_eqb, lt-ltb, le-ltb}
-use Rattle.text_output.specs.Writing.{sheet, puts}
+use Rattle.text_output.specs.Writing.{puts}
 use Rattle.text_input.specs.Gathering.{line_end}
 use Rattle.text_input.proofs.Gathering.{line_end_lem, chunk_end, line_on, line-next, line-done}
 use Rattle.text_input.proofs.lines.gather.Goals as goal

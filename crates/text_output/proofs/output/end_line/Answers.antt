@@ -1,7 +1,6 @@
 -- `text_output::output::end_line` meets its contract. Assumes nothing.
 use mathlib.Core.Path.{sym, ◌∙◌}
 use Rattle.text_output.proofs.Writing.{puts_one}
-use borrow.Author.Rules.{rules}
 use Rattle.text_output.proofs.output.end_line.Goals as goal
 
 pub returns : goal.returns

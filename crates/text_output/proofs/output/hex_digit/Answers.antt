@@ -1,7 +1,6 @@
 -- `text_output::output::hex_digit` meets its contract. Assumes nothing.
 use borrow.Author.Tests.{lt-ltb, le-ltb}
 use Rattle.text_output.specs.Writing.{hex_digit}
-use borrow.Author.Rules.{rules}
 use Rattle.text_output.proofs.output.hex_digit.Goals as goal
 
 pub returns-then-n-lt10 : goal.returns-then-n-lt10

@@ -1,7 +1,6 @@
 -- `text_output::output::put` meets its contract. Assumes nothing.
 use mathlib.Core.Path.{sym}
 use Rattle.text_output.proofs.Writing.{put-fits, put_left_out}
-use borrow.Author.Rules.{rules}
 use Rattle.text_output.proofs.output.put.Goals as goal
 
 pub returns-then-at-out : goal.returns-then-at-out

@@ -1,7 +1,6 @@
 -- `text_output::output::put_bytes` meets its contract. Assumes nothing.
 use Rattle.text_output.specs.Writing.{puts}
 use Rattle.text_output.proofs.Writing.{bytes_none, bytes_some}
-use borrow.Author.Rules.{rules}
 use Rattle.text_output.proofs.output.put_bytes.Goals as goal
 
 pub returns-then-bytes-eq0 : goal.returns-then-bytes-eq0

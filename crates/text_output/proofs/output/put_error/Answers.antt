@@ -1,7 +1,6 @@
 -- `text_output::output::put_error` meets its contract. Assumes nothing.
 use mathlib.Core.Path.{ap, ◌∙◌}
 use Rattle.text_output.specs.Writing.{puts, writes}
-use borrow.Author.Rules.{rules}
 use Rattle.text_output.proofs.output.put_error.Goals as goal
 
 pub returns : goal.returns

@@ -1,5 +1,4 @@
 -- `text_output::output::put_flag` meets its contract. Assumes nothing.
-use borrow.Author.Rules.{rules}
 use Rattle.text_output.proofs.output.put_flag.Goals as goal
 
 pub returns-then-flag : goal.returns-then-flag

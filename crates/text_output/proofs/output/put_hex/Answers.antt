@@ -1,9 +1,6 @@
 -- `text_output::output::put_hex` meets its contract. Assumes nothing.
-use Prim.Native.Nat.{◌-◌}
-use mathlib.Core.Path.{◌≡◌, refl, sym, ap, ◌∙◌}
-use native.Mathlib.Omega.{arith}
-use lib.ListN.{length, drop}
-use Rattle.text_output.specs.Writing.{sheet, puts, hex_text}
+use mathlib.Core.Path.{refl, sym, ap, ◌∙◌}
+use Rattle.text_output.specs.Writing.{puts}
 use Rattle.text_output.proofs.Writing.{hex_next, hex_end}
 use Rattle.text_output.proofs.output.put_hex.Goals as goal
 

@@ -1,10 +1,8 @@
 -- `text_output::output::put_hex` meets its contract. Assumes nothing.
 use Prim.Native.Nat.{◌-◌}
-use mathlib.Core.Path.{◌≡◌, refl, sym, ap, ◌∙◌}
-use native.Mathlib.Omega.{arith}
+use mathlib.Core.Path.{◌≡◌}
 use lib.ListN.{length, drop}
 use Rattle.text_output.specs.Writing.{sheet, puts, hex_text}
-use Rattle.text_output.proofs.Writing.{hex_next, hex_end}
 use Rattle.text_output.proofs.output.put_hex.Given as goal
 
 abbrev pub invariant-loop-i : goal.invariant-loop-i

@@ -1,6 +1,5 @@
 -- `text_output::output::put_hex_byte` meets its contract. Assumes nothing.
 use Rattle.text_output.specs.Writing.{puts}
-use borrow.Author.Rules.{rules}
 use Rattle.text_output.proofs.output.put_hex_byte.Goals as goal
 
 pub returns : goal.returns

@@ -1,6 +1,5 @@
 -- `text_output::output::put_number` meets its contract. Assumes nothing.
 use Rattle.text_output.specs.Writing.{puts}
-use borrow.Author.Rules.{rules}
 use Rattle.text_output.proofs.output.put_number.Goals as goal
 
 pub returns : goal.returns

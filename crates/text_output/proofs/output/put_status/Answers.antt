@@ -1,7 +1,6 @@
 -- `text_output::output::put_status` meets its contract. Assumes nothing.
 use mathlib.Core.Path.{sym, ◌∙◌}
 use Rattle.text_output.specs.Writing.{puts, status_text}
-use borrow.Author.Rules.{rules}
 use Rattle.text_output.proofs.output.put_status.Goals as goal
 
 pub returns-then-is_fault : goal.returns-then-is_fault

@@ -1,9 +1,6 @@
 -- `text_output::output::put_text` meets its contract. Assumes nothing.
-use Prim.Native.Nat.{◌-◌}
-use mathlib.Core.Path.{◌≡◌, refl, sym, ap, ◌∙◌}
-use native.Mathlib.Omega.{arith}
-use lib.ListN.{length, drop}
-use Rattle.text_output.specs.Writing.{sheet, puts}
+use mathlib.Core.Path.{refl, sym, ap, ◌∙◌}
+use Rattle.text_output.specs.Writing.{puts}
 use Rattle.text_output.proofs.Writing.{text-next, text_end}
 use Rattle.text_output.proofs.output.put_text.Goals as goal
 

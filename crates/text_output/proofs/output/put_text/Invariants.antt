@@ -1,10 +1,8 @@
 -- `text_output::output::put_text` meets its contract. Assumes nothing.
 use Prim.Native.Nat.{◌-◌}
-use mathlib.Core.Path.{◌≡◌, refl, sym, ap, ◌∙◌}
-use native.Mathlib.Omega.{arith}
+use mathlib.Core.Path.{◌≡◌}
 use lib.ListN.{length, drop}
 use Rattle.text_output.specs.Writing.{sheet, puts}
-use Rattle.text_output.proofs.Writing.{text-next, text_end}
 use Rattle.text_output.proofs.output.put_text.Given as goal
 
 abbrev pub invariant-loop-i : goal.invariant-loop-i

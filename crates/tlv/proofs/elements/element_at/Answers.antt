@@ -4,8 +4,6 @@ use mathlib.Core.Path.{◌≡◌, sym, ◌∙◌}
 use mathlib.Core.Bool.{true}
 use lib.ListN.{get_or}
 use native.Mathlib.Omega.{arith}
-use borrow.Author.Rules.{rules}
-use borrow.Author.Tests.{not-true, not-false}
 use Rattle.tlv.specs.Elements.{known, control_at, length_from, value_from, value_end}
 use Rattle.tlv.proofs.Heads.{tag_le, length_le, element_outside, element_unknown, element_short, element_made}
 use Rattle.tlv.proofs.elements.element_at.Goals as goal

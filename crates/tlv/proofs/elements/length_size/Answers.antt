@@ -1,7 +1,6 @@
 -- `tlv::elements::length_size` meets its contract. Assumes nothing.
 use mathlib.Core.Path.{sym, ◌∙◌}
 use Rattle.tlv.specs.Elements.{length_size}
-use borrow.Author.Rules.{rules}
 use Rattle.tlv.proofs.elements.length_size.Goals as goal
 
 pub returns-then-is_measured : goal.returns-then-is_measured

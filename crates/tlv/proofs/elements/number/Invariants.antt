@@ -1,9 +1,7 @@
 -- `tlv::elements::number` meets its contract. Assumes nothing.
-use Prim.Native.Nat.{◌+◌, ◌-◌, ◌^◌, ◌≤◌, ◌<◌}
-use mathlib.Core.Path.{◌≡◌, sym, ◌∙◌}
-use native.Mathlib.Omega.{arith}
+use Prim.Native.Nat.{◌+◌, ◌-◌, ◌≤◌}
+use mathlib.Core.Path.{◌≡◌}
 use Rattle.tlv.specs.Elements.{little}
-use Rattle.tlv.proofs.Numbers.{little_one, little_none, little_down, little_all, little_under}
 use Rattle.tlv.proofs.elements.number.Given as goal
 
 abbrev pub invariant-loop-i : goal.invariant-loop-i

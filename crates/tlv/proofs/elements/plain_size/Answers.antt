@@ -1,7 +1,6 @@
 -- `tlv::elements::plain_size` meets its contract. Assumes nothing.
 use borrow.Author.Tests.{lt-ltb, le-ltb, eq-eqb, ne_eqb}
 use Rattle.tlv.specs.Elements.{plain_size}
-use borrow.Author.Rules.{rules}
 use Rattle.tlv.proofs.elements.plain_size.Goals as goal
 
 pub returns-then-kind-lt-FALSE : goal.returns-then-kind-lt-FALSE

@@ -2,7 +2,6 @@
 use mathlib.Core.Path.{◌≡◌, sym, ◌∙◌}
 use mathlib.Core.Bool.{true}
 use native.Mathlib.Omega.{arith}
-use borrow.Author.Rules.{rules}
 use Rattle.tlv.specs.Elements.{measured, size_of}
 use Rattle.tlv.proofs.Heads.{width_le, length-measured}
 use Rattle.tlv.proofs.elements.value_size.Goals as goal

@@ -1,7 +1,6 @@
 -- `tlv::elements::width_of` meets its contract. Assumes nothing.
 use Rattle.tlv.specs.Elements.{width}
 use Rattle.tlv.proofs.Heads.{width_shifted}
-use borrow.Author.Rules.{rules}
 use Rattle.tlv.proofs.elements.width_of.Goals as goal
 
 pub returns : goal.returns

@@ -1,7 +1,6 @@
 -- `tlv::encoding::number_size` meets its contract. Assumes nothing.
 use native.Mathlib.Omega.{arith}
 use Rattle.tlv.proofs.Heads.{width_le}
-use borrow.Author.Rules.{rules}
 use Rattle.tlv.proofs.encoding.number_size.Goals as goal
 
 pub overflow_add-result : goal.overflow_add-result

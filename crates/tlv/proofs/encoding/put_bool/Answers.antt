@@ -1,5 +1,4 @@
 -- `tlv::encoding::put_bool` meets its contract. Assumes nothing.
-use borrow.Author.Rules.{rules}
 use Rattle.tlv.proofs.encoding.put_bool.Goals as goal
 
 pub returns-then-flag : goal.returns-then-flag

@@ -1,6 +1,5 @@
 -- `tlv::encoding::put_head` meets its contract. Assumes nothing.
 use Rattle.text_output.specs.Writing.{puts}
-use borrow.Author.Rules.{rules}
 use Rattle.tlv.proofs.encoding.put_head.Goals as goal
 
 pub returns : goal.returns

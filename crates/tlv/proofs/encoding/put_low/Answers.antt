@@ -1,9 +1,6 @@
 -- `tlv::encoding::put_low` meets its contract. Assumes nothing.
-use mathlib.Core.Path.{◌≡◌, refl, sym, ap, ◌∙◌}
-use borrow.Author.Rules.{rules}
-use lib.ListN.{length}
-use Rattle.text_output.specs.Writing.{sheet, puts}
-use Rattle.tlv.specs.Encoding.{low_first}
+use mathlib.Core.Path.{refl, sym, ap, ◌∙◌}
+use Rattle.text_output.specs.Writing.{puts}
 use Rattle.tlv.proofs.Codes.{low_more, low_none}
 use Rattle.tlv.proofs.encoding.put_low.Goals as goal
 

@@ -1,10 +1,8 @@
 -- `tlv::encoding::put_low` meets its contract. Assumes nothing.
-use mathlib.Core.Path.{◌≡◌, refl, sym, ap, ◌∙◌}
-use borrow.Author.Rules.{rules}
+use mathlib.Core.Path.{◌≡◌}
 use lib.ListN.{length}
 use Rattle.text_output.specs.Writing.{sheet, puts}
 use Rattle.tlv.specs.Encoding.{low_first}
-use Rattle.tlv.proofs.Codes.{low_more, low_none}
 use Rattle.tlv.proofs.encoding.put_low.Given as goal
 
 -- what is left of the number, put from here on, is the number put from the start

@@ -6,7 +6,6 @@ use Rattle.text_output.proofs.Writing.{then}
 use Rattle.tlv.specs.Elements.{width}
 use Rattle.tlv.specs.Encoding.{low_first, context}
 use Rattle.tlv.proofs.Codes.{smallest_le, put_same}
-use borrow.Author.Rules.{rules}
 use Rattle.tlv.proofs.encoding.put_number.Goals as goal
 
 pub put_head-next-requires : goal.put_head-next-requires

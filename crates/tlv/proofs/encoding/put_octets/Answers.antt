@@ -7,7 +7,6 @@ use Rattle.text_output.proofs.Writing.{then}
 use Rattle.tlv.specs.Elements.{width}
 use Rattle.tlv.specs.Encoding.{low_first, context}
 use Rattle.tlv.proofs.Codes.{smallest_le, put_same}
-use borrow.Author.Rules.{rules}
 use Rattle.tlv.proofs.encoding.put_octets.Goals as goal
 
 pub overflow_add-kind : goal.overflow_add-kind

@@ -1,7 +1,5 @@
 -- `tlv::members::member_at` meets its contract. Assumes nothing.
 use mathlib.Core.Path.{◌≡◌, sym, ◌∙◌}
-use borrow.Author.Rules.{rules}
-use borrow.Author.Tests.{not-true}
 use Rattle.tlv.specs.declared.elements.Parsed.TheVariants.{Whole}
 use Rattle.tlv.specs.Elements.{element_at}
 use Rattle.tlv.proofs.Walks.{member-outside, member_broken, member-ends, member-plain, member_fails, member_goes}

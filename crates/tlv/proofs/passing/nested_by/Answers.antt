@@ -3,7 +3,6 @@ use mathlib.Core.Path.{sym, ◌∙◌}
 use native.Mathlib.Omega.{arith}
 use borrow.Author.Tests.{eq-eqb, ne_eqb}
 use Rattle.tlv.specs.Passing.{nested}
-use borrow.Author.Rules.{rules}
 use Rattle.tlv.proofs.passing.nested_by.Goals as goal
 
 pub returns-then-is_container : goal.returns-then-is_container

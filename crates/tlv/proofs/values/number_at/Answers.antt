@@ -2,7 +2,6 @@
 use mathlib.Core.Path.{◌≡◌, sym, ◌∙◌}
 use mathlib.Core.Bool.{true}
 use native.Mathlib.Omega.{arith}
-use borrow.Author.Rules.{rules}
 use Rattle.tlv.specs.declared.elements.Parsed.TheVariants.{Whole}
 use Rattle.tlv.specs.Elements.{element_at}
 use Rattle.tlv.specs.Values.{unsigned, number_at}

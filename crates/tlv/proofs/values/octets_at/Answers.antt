@@ -1,6 +1,5 @@
 -- `tlv::values::octets_at` meets its contract. Assumes nothing.
 use mathlib.Core.Path.{◌≡◌, sym, ◌∙◌}
-use borrow.Author.Rules.{rules}
 use Rattle.tlv.specs.declared.elements.Parsed.TheVariants.{Whole}
 use Rattle.tlv.specs.Elements.{element_at}
 use Rattle.tlv.specs.Values.{octets_at}

@@ -1,6 +1,5 @@
 -- `KeyRange::holds` meets its contract: each arm is the definition's case. Assumes nothing.
 use mathlib.Core.Path.{refl}
-use borrow.Author.Rules.{rules}
 use Rattle.words.specs.Words.{within}
 use Rattle.words.proofs.KeyRange.holds.Goals as goal
 

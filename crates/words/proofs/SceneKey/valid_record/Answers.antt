@@ -1,6 +1,5 @@
 -- `words::SceneKey::valid_record` meets its contract. Assumes nothing.
 use mathlib.Core.Path.{refl}
-use borrow.Author.Rules.{rules}
 use Rattle.words.proofs.SceneKey.valid_record.Goals as goal
 
 pub returns : goal.returns

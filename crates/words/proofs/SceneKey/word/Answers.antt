@@ -1,6 +1,5 @@
 -- `words::SceneKey::word` meets its contract. Assumes nothing.
 use mathlib.Core.Path.{refl}
-use borrow.Author.Rules.{rules}
 use Rattle.words.proofs.SceneKey.word.Goals as goal
 
 pub returns : goal.returns

@@ -1,8 +1,6 @@
 -- `field_sets::reader::Cursor::next` meets its contract. Assumes nothing.
 use mathlib.Core.Path.{sym, ◌∙◌}
-use borrow.Author.Rules.{rules}
 use borrow.Author.Tests.{eq-eqb, ne_eqb}
-use native.Mathlib.Omega.{arith}
 use Rattle.field_sets.specs.Reader.{next_item}
 use Rattle.field_sets.proofs.reader.Cursor.next.Goals as goal
 
