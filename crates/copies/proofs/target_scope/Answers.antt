@@ -1,6 +1,5 @@
 -- `scenes::copy::target_scope` meets its contract. Assumes nothing.
 use mathlib.Core.Path.{sym, ap, ◌∙◌}
-use borrow.Author.Rules.{rules}
 use Rattle.records.specs.declared.Scope.TheVariants.{Scene, Group}
 use Rattle.copies.proofs.target_scope.Goals as goal
 

@@ -23,9 +23,10 @@ loop-pass-preserved c =
     let p = c.loop-pass.pass in
     let l = c.loop-pass.records in
     let on = runs_on c.loop-pass.invariant.0 c.loop-pass-test.true in
-    let e : c.visit-done.result ≡ visit p (record_at l p.at) = c.visit-done.ensures in
-    (subst (λ (d : Visited). Runs (notice_records c.args.endpoint c.args.state c.args.records.now) d.pass (set l p.at d.«record»)) (sym e) on.1,
-    length-set l p.at _ ∙ c.loop-pass.invariant.1)
+    let e : c.visit-done.result ≡ visit p (record_at l p.at) = c.visit-done.ensures in (
+      subst (λ (d : Visited). Runs (notice_records c.args.endpoint c.args.state c.args.records.now) d.pass (set l p.at d.«record»)) (sym e) on.1,
+      length-set l p.at _ ∙ c.loop-pass.invariant.1,
+    )
 
 pub returns : goal.returns
 returns c =

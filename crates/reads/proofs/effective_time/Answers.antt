@@ -1,6 +1,5 @@
 -- `reads::effective_time` meets its contract. Assumes nothing.
 use mathlib.Core.Path.{sym, ap}
-use borrow.Author.Rules.{rules}
 use Rattle.reads.specs.declared.Transition.{Transition}
 use Rattle.reads.specs.Reads.{effective_time}
 use Rattle.reads.proofs.effective_time.Goals as goal

@@ -17,8 +17,8 @@ unfolding count_keys
 loop-i-preserved c =
     let inv = c.loop-i.invariant in
     elim c.if-holds.branch [
-      then-holds w ↦ (omega arith, omega arith, w.count-is ∙ ap (λ (m : ℕ). m + 1) inv.2 ∙ sym (count_hit _ _ (sym c.holds.ensures ∙ w.if-holds.true)))
-    | else-holds w ↦ (omega arith, omega arith, w.count-is ∙ inv.2 ∙ sym (count_miss _ _ (sym c.holds.ensures ∙ w.if-holds.false)))
+      | then-holds w ↦ (omega arith, omega arith, w.count-is ∙ ap (λ (m : ℕ). m + 1) inv.2 ∙ sym (count_hit _ _ (sym c.holds.ensures ∙ w.if-holds.true)))
+      | else-holds w ↦ (omega arith, omega arith, w.count-is ∙ inv.2 ∙ sym (count_miss _ _ (sym c.holds.ensures ∙ w.if-holds.false)))
     ]
 
 pub returns : goal.returns

@@ -1,7 +1,6 @@
 -- `Copies::copy_entry` meets its contract. Assumes nothing.
 use mathlib.Core.Path.{sym, ◌∙◌}
 use native.Mathlib.Omega.{arith}
-use borrow.Author.Rules.{rules}
 use Rattle.slots.specs.Slots.{slots_of}
 use Rattle.state.specs.Table.{Entries, entries_of}
 use Rattle.state.proofs.Laws.{found_under}

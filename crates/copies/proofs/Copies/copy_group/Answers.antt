@@ -1,21 +1,13 @@
 -- `Copies::copy_group` meets its contract: what is left of the walk at turn i answers as the whole walk, and there is room for
 -- the next copy. Assumes nothing.
-use Prim.Native.Nat.{ℕ, ◌+◌, ◌-◌, ◌≤◌, ◌<◌}
-use mathlib.Core.Path.{◌≡◌, refl, sym, ap, ◌∙◌, subst⁻¹}
-use mathlib.Core.Bool.{true, false}
+use mathlib.Core.Path.{◌≡◌, refl, sym, ◌∙◌}
 use native.Mathlib.Omega.{arith}
-use borrow.Author.Rules.{rules}
 use lib.ListN.{get_or}
-use Rattle.words.specs.Constants.{success}
-use Rattle.words.specs.Words.{within, group_keys, scene_of}
-use Rattle.words.specs.declared.GroupKey.{GroupKey}
-use Rattle.words.specs.declared.KeyRange.{KeyRange}
-use Rattle.slots.proofs.View.{SameLengths}
-use Rattle.state.specs.Table.{Entries, entries_of, EntryRoom}
-use Rattle.copies.specs.Copy.{Copied, copied_of, copy_entry, key_in, copy_walk}
-use Rattle.copies.proofs.Laws.{Kept, copy-kept, walk_start, walk_end, walk_skip, walk_stop, walk_step}
+use Rattle.state.specs.Table.{entries_of}
+use Rattle.copies.specs.Copy.{Copied, copied_of, copy_entry, key_in}
+use Rattle.copies.proofs.Laws.{walk_start, walk_end}
 use Rattle.copies.proofs.Copies.copy_group.Goals as goal
-use Rattle.copies.proofs.Copies.copy_group.Invariants.{keys_of, named, Turn, skip, kept, step, stop}
+use Rattle.copies.proofs.Copies.copy_group.Invariants.{named, skip, step, stop}
 
 pub loop-i-init : goal.loop-i-init
 loop-i-init c =

@@ -1,10 +1,9 @@
 -- `Copies::copy_group` meets its contract: what is left of the walk at turn i answers as the whole walk, and there is room for
 -- the next copy. Assumes nothing.
 use Prim.Native.Nat.{ℕ, ◌+◌, ◌-◌, ◌≤◌, ◌<◌}
-use mathlib.Core.Path.{◌≡◌, refl, sym, ap, ◌∙◌, subst⁻¹}
+use mathlib.Core.Path.{◌≡◌, sym, ap, ◌∙◌, subst⁻¹}
 use mathlib.Core.Bool.{true, false}
 use native.Mathlib.Omega.{arith}
-use borrow.Author.Rules.{rules}
 use lib.ListN.{get_or}
 use Rattle.words.specs.Constants.{success}
 use Rattle.words.specs.Words.{within, group_keys, scene_of}
@@ -12,8 +11,8 @@ use Rattle.words.specs.declared.GroupKey.{GroupKey}
 use Rattle.words.specs.declared.KeyRange.{KeyRange}
 use Rattle.slots.proofs.View.{SameLengths}
 use Rattle.state.specs.Table.{Entries, entries_of, EntryRoom}
-use Rattle.copies.specs.Copy.{Copied, copied_of, copy_entry, key_in, copy_walk}
-use Rattle.copies.proofs.Laws.{Kept, copy-kept, walk_start, walk_end, walk_skip, walk_stop, walk_step}
+use Rattle.copies.specs.Copy.{Copied, copy_entry, key_in, copy_walk}
+use Rattle.copies.proofs.Laws.{Kept, copy-kept, walk_skip, walk_stop, walk_step}
 use Rattle.copies.proofs.Copies.copy_group.Given as goal
 
 abbrev pub keys_of : GroupKey → KeyRange

@@ -5,7 +5,6 @@ use Rattle.state.specs.Table.{Table, table_of}
 use Rattle.state.proofs.Guard.{Admitted, admits, refuses-outcome}
 use Rattle.copies.specs.Copy.{copy_scenes_inner, copy_scene}
 use Rattle.copies.proofs.Laws.{sound-copy-room}
-use borrow.Author.Rules.{rules}
 use Rattle.copies.proofs.Copies.copy_scene.Goals as goal
 
 pub returns-then-gate-ne-SUCCESS : goal.returns-then-gate-ne-SUCCESS

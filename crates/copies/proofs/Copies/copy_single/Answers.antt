@@ -1,6 +1,5 @@
 -- `Copies::copy_single` meets its contract. Assumes nothing.
 use mathlib.Core.Path.{sym, ◌∙◌}
-use borrow.Author.Rules.{rules}
 use Rattle.state.specs.Table.{Entries, entries_of}
 use Rattle.state.proofs.Laws.{found_under}
 use Rattle.copies.specs.Copy.{copied_of}

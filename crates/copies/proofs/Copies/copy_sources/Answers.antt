@@ -1,6 +1,5 @@
 -- `Copies::copy_sources` meets its contract. Assumes nothing.
 use mathlib.Core.Path.{sym, ◌∙◌}
-use borrow.Author.Rules.{rules}
 use Rattle.state.specs.Table.{Entries, entries_of}
 use Rattle.copies.specs.Copy.{copied_of}
 use Rattle.copies.proofs.Laws.{sources_group, sources_single}

@@ -54,7 +54,7 @@ put-requires c =
     let bounds : EntryBounds c.args.bytes.now c.in-Scene.slot = entry_bounds _ (λ i. (c.shared_slice_known-1.given i).fits) _ _
     (sym c.entry_at.ensures ∙ c.in-Scene.is) in
     let asks = fill_asks c.loop-next.invariant _ _ (sym c.member_at-step.ensures ∙ c.in-Member.is) _
-        (sym c.entry_at.ensures ∙ c.in-Scene.is) bounds in
+    (sym c.entry_at.ensures ∙ c.in-Scene.is) bounds in
     record { ext_len_bound = asks.0; at_in_bounds = asks.1.0; at_in_bounds_2 = asks.1.1.0; stride_in_bounds = asks.1.1.1 }
 
 -- a position counts at least as far as the members before it

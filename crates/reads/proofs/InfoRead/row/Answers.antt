@@ -1,5 +1,4 @@
 -- `InfoRead::row` meets its contract. Assumes nothing.
-use borrow.Author.Rules.{rules}
 use Rattle.reads.proofs.InfoRead.row.Goals as goal
 
 pub returns : goal.returns

@@ -4,7 +4,6 @@ use native.Mathlib.Omega.{arith}
 use borrow.Author.Tests.{lt-ltb, le-ltb}
 use Rattle.state.proofs.Laws.{sound-room, sound-length}
 use Rattle.reads.specs.Reads.{field_bytes}
-use borrow.Author.Rules.{rules}
 use Rattle.reads.proofs.Reads.field_bytes.Goals as goal
 
 pub field_bytes-requires : goal.field_bytes-requires

@@ -12,7 +12,6 @@ use Rattle.state.specs.Table.{Table, table_of}
 use Rattle.reads.specs.Reads.{read_fabric_scene_info}
 use Rattle.state.proofs.Guard.{Admitted, admits, refuses}
 use Rattle.reads.proofs.Laws.{no_row_lem, entries-row, record_row}
-use borrow.Author.Rules.{rules}
 use Rattle.reads.proofs.Reads.read_fabric_scene_info.Goals as goal
 
 pub returns-then-gate-ne-SUCCESS : goal.returns-then-gate-ne-SUCCESS

@@ -11,7 +11,6 @@ use Rattle.state.proofs.Guard.{Admitted, admits, refuses}
 use Rattle.state.proofs.Changes.{found-scene}
 use Rattle.reads.specs.Reads.{read_at, recall_lookup}
 use Rattle.reads.proofs.Laws.{read_found}
-use borrow.Author.Rules.{rules}
 use Rattle.reads.proofs.Reads.recall_lookup.Goals as goal
 
 pub returns-then-gate-ne-SUCCESS : goal.returns-then-gate-ne-SUCCESS

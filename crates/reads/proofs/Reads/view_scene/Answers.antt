@@ -11,7 +11,6 @@ use Rattle.state.proofs.Guard.{Admitted, admits, refuses}
 use Rattle.state.proofs.Changes.{found-scene}
 use Rattle.reads.specs.declared.Transition.TheVariants.{Stored}
 use Rattle.reads.specs.Reads.{read_at, view_scene}
-use borrow.Author.Rules.{rules}
 use Rattle.reads.proofs.Reads.view_scene.Goals as goal
 
 pub returns-then-gate-ne-SUCCESS : goal.returns-then-gate-ne-SUCCESS

@@ -1,6 +1,5 @@
 -- `SceneRead::found` meets its contract. Assumes nothing.
 use Rattle.words.specs.Constants.{success}
-use borrow.Author.Rules.{rules}
 use Rattle.reads.proofs.SceneRead.found.Goals as goal
 
 pub returns : goal.returns
