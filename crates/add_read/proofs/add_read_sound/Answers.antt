@@ -1,5 +1,4 @@
 -- `add_read::add_read_sound` meets its contract. Assumes nothing.
-use borrow.Author.Rules.{rules}
 use Rattle.state.specs.Table.{Table, table_of}
 use Rattle.state.specs.Answer.{Result, result_of}
 use Rattle.add_read.proofs.Laws.{read-refuses, read_adds}

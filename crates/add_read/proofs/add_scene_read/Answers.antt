@@ -2,7 +2,6 @@
 use mathlib.Core.Path.{sym, ◌∙◌}
 use Rattle.state.proofs.Guard.{unsound-outcome}
 use Rattle.add_read.specs.Adding.{add_scene_read}
-use borrow.Author.Rules.{rules}
 use Rattle.add_read.proofs.add_scene_read.Goals as goal
 
 pub add_read_sound-requires : goal.add_read_sound-requires

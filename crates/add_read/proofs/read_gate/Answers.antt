@@ -1,6 +1,5 @@
 -- `add_read::read_gate` meets its contract. Assumes nothing.
 use mathlib.Core.Path.{◌≡◌, sym, ◌∙◌}
-use borrow.Author.Rules.{rules}
 use Rattle.requests.specs.Requests.{first_refusal}
 use Rattle.add_read.specs.Adding.{early_gates}
 use Rattle.add_read.proofs.Laws.{early_gate, read_early, read-unread, read_same, read-other}

@@ -4,7 +4,6 @@ use mathlib.Core.Path.{sym, ap, subst}
 use native.Mathlib.Omega.{arith}
 use Rattle.words.specs.declared.Found.{Found}
 use Rattle.commands.specs.Counted.{keys_compared}
-use borrow.Author.Rules.{rules}
 use Rattle.commands.proofs.keys_compared.Goals as goal
 
 pub overflow_add-result : goal.overflow_add-result

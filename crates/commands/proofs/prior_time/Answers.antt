@@ -3,7 +3,6 @@ use mathlib.Core.Path.{sym, ap, ◌∙◌}
 use lib.ListN.{get_or-eq_default}
 use Rattle.words.specs.declared.Found.{Found}
 use Rattle.commands.specs.Commands.{prior_time}
-use borrow.Author.Rules.{rules}
 use Rattle.commands.proofs.prior_time.Goals as goal
 
 pub returns-then-at-times : goal.returns-then-at-times

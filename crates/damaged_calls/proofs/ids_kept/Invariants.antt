@@ -1,6 +1,5 @@
 -- `damaged_calls::ids_kept` is safe and ends. Assumes nothing.
 use Prim.Native.Nat.{◌-◌}
-use native.Mathlib.Omega.{arith}
 use lib.ListN.{length}
 use Rattle.damaged_calls.proofs.ids_kept.Given as goal
 

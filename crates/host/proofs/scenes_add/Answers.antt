@@ -1,5 +1,4 @@
 -- `host::scenes_add` meets its contract. Assumes nothing.
-use borrow.Author.Rules.{rules}
 use Rattle.host.proofs.scenes_add.Goals as goal
 
 pub returns : goal.returns

@@ -1,5 +1,4 @@
 -- `host::scenes_attribute_changed` meets its contract. Assumes nothing.
-use borrow.Author.Rules.{rules}
 use Rattle.host.proofs.scenes_attribute_changed.Goals as goal
 
 pub returns : goal.returns

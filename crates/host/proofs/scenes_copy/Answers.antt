@@ -2,7 +2,6 @@
 use mathlib.Core.Path.{◌∙◌}
 use Rattle.state.specs.Table.{Table, table_of}
 use Rattle.copies.specs.Copy.{copy_scene}
-use borrow.Author.Rules.{rules}
 use Rattle.host.proofs.scenes_copy.Goals as goal
 
 pub returns : goal.returns

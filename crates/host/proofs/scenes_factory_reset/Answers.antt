@@ -1,5 +1,4 @@
 -- `host::scenes_factory_reset` meets its contract. Assumes nothing.
-use borrow.Author.Rules.{rules}
 use Rattle.host.proofs.scenes_factory_reset.Goals as goal
 
 pub returns : goal.returns

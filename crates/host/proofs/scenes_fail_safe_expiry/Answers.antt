@@ -1,5 +1,4 @@
 -- `host::scenes_fail_safe_expiry` meets its contract. Assumes nothing.
-use borrow.Author.Rules.{rules}
 use Rattle.host.proofs.scenes_fail_safe_expiry.Goals as goal
 
 pub returns : goal.returns

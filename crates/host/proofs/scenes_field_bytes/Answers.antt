@@ -5,7 +5,6 @@ use Rattle.state.specs.Table.{Table, table_of}
 use Rattle.reads.specs.Reads.{field_bytes}
 use Rattle.host_numbers.specs.Fields.{place_of, field_place}
 use Rattle.host_numbers.proofs.Fields.{below_most}
-use borrow.Author.Rules.{rules}
 use Rattle.host.proofs.scenes_field_bytes.Goals as goal
 
 pub of_entry-requires : goal.of_entry-requires

@@ -1,5 +1,4 @@
 -- `host::scenes_get_membership` meets its contract. Assumes nothing.
-use borrow.Author.Rules.{rules}
 use Rattle.host.proofs.scenes_get_membership.Goals as goal
 
 pub returns : goal.returns

@@ -1,5 +1,4 @@
 -- `host::scenes_is_sound` meets its contract. Assumes nothing.
-use borrow.Author.Rules.{rules}
 use Rattle.host.proofs.scenes_is_sound.Goals as goal
 
 pub returns : goal.returns

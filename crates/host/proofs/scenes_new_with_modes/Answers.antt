@@ -1,5 +1,4 @@
 -- `host::scenes_new_with_modes` meets its contract. Assumes nothing.
-use borrow.Author.Rules.{rules}
 use Rattle.host.proofs.scenes_new_with_modes.Goals as goal
 
 pub returns : goal.returns

@@ -1,5 +1,4 @@
 -- `host::scenes_remove_fabric` meets its contract. Assumes nothing.
-use borrow.Author.Rules.{rules}
 use Rattle.host.proofs.scenes_remove_fabric.Goals as goal
 
 pub returns : goal.returns

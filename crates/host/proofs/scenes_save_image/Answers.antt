@@ -1,5 +1,4 @@
 -- `host::scenes_save_image` meets its contract. Assumes nothing.
-use borrow.Author.Rules.{rules}
 use Rattle.host.proofs.scenes_save_image.Goals as goal
 
 pub returns : goal.returns

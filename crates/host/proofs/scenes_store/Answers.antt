@@ -1,5 +1,4 @@
 -- `host::scenes_store` meets its contract. Assumes nothing.
-use borrow.Author.Rules.{rules}
 use Rattle.host.proofs.scenes_store.Goals as goal
 
 pub returns : goal.returns

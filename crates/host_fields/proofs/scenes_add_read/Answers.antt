@@ -1,5 +1,4 @@
 -- `host_fields::scenes_add_read` meets its contract. Assumes nothing.
-use borrow.Author.Rules.{rules}
 use Rattle.host_fields.proofs.scenes_add_read.Goals as goal
 
 pub returns : goal.returns

@@ -1,6 +1,5 @@
 -- `host_fields::scenes_next_item` meets its contract. Assumes nothing.
 use mathlib.Core.Path.{sym, ◌∙◌}
-use borrow.Author.Rules.{rules}
 use Rattle.host_fields.proofs.scenes_next_item.Goals as goal
 
 pub returns-in-Cluster : goal.returns-in-Cluster

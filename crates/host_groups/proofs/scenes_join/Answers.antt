@@ -1,5 +1,4 @@
 -- `host_groups::scenes_join` meets its contract. Assumes nothing.
-use borrow.Author.Rules.{rules}
 use Rattle.host_groups.proofs.scenes_join.Goals as goal
 
 pub returns : goal.returns

@@ -2,7 +2,6 @@
 use mathlib.Core.Path.{◌∙◌}
 use Rattle.state.specs.Table.{Table, table_of}
 use Rattle.reads.specs.Reads.{read_fabric_scene_info}
-use borrow.Author.Rules.{rules}
 use Rattle.host_unchecked.proofs.scenes_read_info_unchecked.Goals as goal
 
 pub returns : goal.returns

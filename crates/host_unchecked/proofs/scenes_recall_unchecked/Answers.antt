@@ -2,7 +2,6 @@
 use mathlib.Core.Path.{◌∙◌}
 use Rattle.state.specs.Table.{Table, table_of}
 use Rattle.commands.specs.Commands.{recall_scene}
-use borrow.Author.Rules.{rules}
 use Rattle.host_unchecked.proofs.scenes_recall_unchecked.Goals as goal
 
 pub returns : goal.returns

@@ -1,5 +1,4 @@
 -- `host_unchecked::scenes_save_image_unchecked` meets its contract. Assumes nothing.
-use borrow.Author.Rules.{rules}
 use Rattle.host_unchecked.proofs.scenes_save_image_unchecked.Goals as goal
 
 -- the condition is the one that the host meets

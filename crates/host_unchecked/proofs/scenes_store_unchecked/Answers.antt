@@ -1,5 +1,4 @@
 -- `host_unchecked::scenes_store_unchecked` meets its contract. Assumes nothing.
-use borrow.Author.Rules.{rules}
 use Rattle.host_unchecked.proofs.scenes_store_unchecked.Goals as goal
 
 pub returns : goal.returns

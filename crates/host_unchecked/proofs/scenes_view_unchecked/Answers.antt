@@ -1,5 +1,4 @@
 -- `host_unchecked::scenes_view_unchecked` meets its contract. Assumes nothing.
-use borrow.Author.Rules.{rules}
 use Rattle.host_unchecked.proofs.scenes_view_unchecked.Goals as goal
 
 pub returns : goal.returns

@@ -1,6 +1,5 @@
 -- `image_load::load_image` meets its contract: on a sound table it is `load_sound`, and on any other it answers 6. Assumes nothing.
 use mathlib.Core.Path.{sym, ◌∙◌}
-use borrow.Author.Rules.{rules}
 use Rattle.image_load.proofs.Loads.{load-unsound}
 use Rattle.image_load.proofs.load_image.Goals as goal
 

@@ -10,7 +10,6 @@ use Rattle.image_reader.specs.declared.Arrays.TheVariants.{Both}
 use Rattle.image_reader.specs.Image.{arrays_in}
 use Rattle.image_load.specs.Loading.{load_tlv, load_image}
 use Rattle.image_load.proofs.Loads.{by_length, load-unread, load-refused, load-passed, load-done}
-use borrow.Author.Rules.{rules}
 use Rattle.image_load.proofs.load_sound.Goals as goal
 
 pub startup-requires : goal.startup-requires

@@ -2,7 +2,6 @@
 use Prim.Native.Nat.{ℕ}
 use mathlib.Core.Path.{sym, ◌∙◌}
 use mathlib.Core.List.{List}
-use borrow.Author.Rules.{rules}
 use Rattle.state.specs.Table.{Table, table_of}
 use Rattle.image_save.specs.Saving.{saved_of}
 use Rattle.image_save.proofs.Laws.{save-unsound}

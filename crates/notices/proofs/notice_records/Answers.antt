@@ -1,10 +1,7 @@
 -- `notices::notice_records` meets its contract: which pass and which records a turn meets, and that they lead to the answer, is `Runs`.
 use mathlib.Core.Path.{◌≡◌, refl, sym, ap, subst, ◌∙◌}
-use mathlib.Core.List.{List}
-use native.Mathlib.Omega.{arith}
-use lib.ListN.{length, set, length-set}
+use lib.ListN.{set, length-set}
 use Prim.Native.Nat.{◌<◌}
-use Rattle.notices.specs.declared.CurrentScene.{CurrentScene}
 use Rattle.notices.specs.declared.Pass.{Pass}
 use Rattle.notices.specs.declared.Visited.{Visited}
 use Rattle.notices.specs.Notice.{notice_records, answer_of, record_at}

@@ -1,5 +1,4 @@
 -- `notices::notice_records`: from the pass and the records of a turn, the turns that are left lead to the answer.
-use Prim.Native.Nat.{ℕ}
 use mathlib.Core.Path.{◌≡◌}
 use lib.ListN.{length}
 use Rattle.notices.specs.Notice.{notice_records}

@@ -6,7 +6,6 @@ use Rattle.script_lines.specs.Values.{bytes_at}
 use Rattle.script_answers.specs.Done.{plain}
 use Rattle.script_commands.specs.Commands.{add}
 use Rattle.script_answers.proofs.DoneLaws.{plain_done}
-use borrow.Author.Rules.{rules}
 use Rattle.script_commands.proofs.add.Goals as goal
 
 pub returns : goal.returns

@@ -2,7 +2,6 @@
 use native.Mathlib.Omega.{arith}
 use borrow.Author.Tests.{ne_eqb}
 use Rattle.script_commands.specs.Commands.{command}
-use borrow.Author.Rules.{rules}
 use Rattle.script_commands.proofs.command.Goals as goal
 
 pub returns-in-65 : goal.returns-in-65

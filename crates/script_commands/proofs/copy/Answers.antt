@@ -5,7 +5,6 @@ use Rattle.copies.specs.Copy.{copy_scene}
 use Rattle.script_answers.specs.Done.{plain}
 use Rattle.script_commands.specs.Commands.{copy}
 use Rattle.script_answers.proofs.DoneLaws.{plain_done}
-use borrow.Author.Rules.{rules}
 use Rattle.script_commands.proofs.copy.Goals as goal
 
 pub returns : goal.returns

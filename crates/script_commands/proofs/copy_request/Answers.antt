@@ -1,5 +1,4 @@
 -- `script_commands::copy_request` meets its contract. Assumes nothing.
-use borrow.Author.Rules.{rules}
 use Rattle.script_commands.proofs.copy_request.Goals as goal
 
 pub returns : goal.returns

@@ -5,7 +5,6 @@ use Rattle.commands.specs.Commands.{remove_scene}
 use Rattle.script_answers.specs.Done.{plain}
 use Rattle.script_commands.specs.Commands.{remove}
 use Rattle.script_answers.proofs.DoneLaws.{plain_done}
-use borrow.Author.Rules.{rules}
 use Rattle.script_commands.proofs.remove.Goals as goal
 
 pub returns : goal.returns

@@ -5,7 +5,6 @@ use Rattle.commands.specs.Commands.{remove_all_scenes}
 use Rattle.script_answers.specs.Done.{plain}
 use Rattle.script_commands.specs.Commands.{remove_all}
 use Rattle.script_answers.proofs.DoneLaws.{plain_done}
-use borrow.Author.Rules.{rules}
 use Rattle.script_commands.proofs.remove_all.Goals as goal
 
 pub returns : goal.returns

@@ -3,7 +3,6 @@ use mathlib.Core.Path.{ap, ◌∙◌}
 use Rattle.state.specs.Table.{Table, table_of}
 use Rattle.commands.specs.Counted.{store_counted}
 use Rattle.script_commands.specs.Commands.{store_done, store}
-use borrow.Author.Rules.{rules}
 use Rattle.script_commands.proofs.store.Goals as goal
 
 pub returns : goal.returns

@@ -7,7 +7,6 @@ use Rattle.lifecycle.specs.Lifecycle.{scenable_attribute_changed, startup, fail_
 use Rattle.script_answers.specs.Done.{plain}
 use Rattle.script_events.specs.Events.{event}
 use Rattle.script_answers.proofs.DoneLaws.{plain_done}
-use borrow.Author.Rules.{rules}
 use Rattle.script_events.proofs.event.Goals as goal
 
 pub returns-in-84 : goal.returns-in-84

@@ -2,7 +2,6 @@
 use borrow.Author.Tests.{eq-eqb, ne_eqb}
 use Rattle.script_answers.specs.Done.{called_of}
 use Rattle.script_images.specs.Images.{image}
-use borrow.Author.Rules.{rules}
 use Rattle.script_images.proofs.image.Goals as goal
 
 pub returns-then-read-eq80 : goal.returns-then-read-eq80

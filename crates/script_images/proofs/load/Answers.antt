@@ -5,7 +5,6 @@ use Rattle.image_load.specs.Loading.{load_image}
 use Rattle.script_answers.specs.Done.{plain}
 use Rattle.script_answers.proofs.DoneLaws.{plain_done}
 use Rattle.script_images.specs.Images.{load}
-use borrow.Author.Rules.{rules}
 use Rattle.script_images.proofs.load.Goals as goal
 
 pub returns : goal.returns

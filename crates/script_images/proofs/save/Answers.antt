@@ -1,7 +1,6 @@
 -- `script_images::save` meets its contract. Assumes nothing.
 use Rattle.script_images.specs.Images.{save}
 use Rattle.script_images.proofs.ImageLaws.{saved-done}
-use borrow.Author.Rules.{rules}
 use Rattle.script_images.proofs.save.Goals as goal
 
 pub returns : goal.returns

@@ -1,5 +1,5 @@
 -- `script_machine::new_head` meets its contract. Assumes nothing.
-use Rattle.std.proofs.Common.{ap, ◌∙◌, rules, eq-eqb, ne_eqb}
+use Rattle.std.proofs.Common.{ap, ◌∙◌, eq-eqb, ne_eqb}
 use Rattle.state.specs.Table.{new_state_with}
 use Rattle.script_lines.specs.Lines.{not_given}
 use Rattle.script_machine.proofs.new_head.Goals as goal

@@ -1,5 +1,4 @@
 -- `script_machine::read_failed` meets its contract. Assumes nothing.
-use Rattle.std.proofs.Common.{rules}
 use Rattle.script_machine.proofs.read_failed.Goals as goal
 
 pub returns : goal.returns

@@ -1,5 +1,4 @@
 -- `script_machine::too_long` meets its contract. Assumes nothing.
-use Rattle.std.proofs.Common.{rules}
 use Rattle.script_machine.proofs.too_long.Goals as goal
 
 pub returns : goal.returns

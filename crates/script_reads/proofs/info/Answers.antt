@@ -6,7 +6,6 @@ use Rattle.reads.specs.Reads.{read_fabric_scene_info}
 use Rattle.script_lines.specs.Values.{value_at}
 use Rattle.script_reads.specs.Reads.{info}
 use Rattle.script_reads.proofs.ReadLaws.{informed-done}
-use borrow.Author.Rules.{rules}
 use Rattle.script_reads.proofs.info.Goals as goal
 
 pub returns : goal.returns

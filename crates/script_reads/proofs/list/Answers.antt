@@ -4,7 +4,6 @@ use Rattle.state.specs.Table.{Table, table_of}
 use Rattle.reads.specs.Reads.{get_scene_membership}
 use Rattle.script_reads.specs.Reads.{list}
 use Rattle.script_reads.proofs.ReadLaws.{list-state, listed-done}
-use borrow.Author.Rules.{rules}
 use Rattle.script_reads.proofs.list.Goals as goal
 
 pub returns : goal.returns

@@ -6,7 +6,6 @@ use Rattle.reads.specs.Reads.{recall_lookup}
 use Rattle.commands.specs.Commands.{recall_scene}
 use Rattle.script_reads.specs.Reads.{recall}
 use Rattle.script_reads.proofs.ReadLaws.{recalled-done}
-use borrow.Author.Rules.{rules}
 use Rattle.script_reads.proofs.recall.Goals as goal
 
 pub returns : goal.returns

@@ -2,7 +2,6 @@
 use mathlib.Core.Path.{ap}
 use borrow.Author.Tests.{ne_eqb}
 use Rattle.reads.specs.declared.Transition.TheVariants.{Given}
-use borrow.Author.Rules.{rules}
 use Rattle.script_reads.proofs.transition.Goals as goal
 
 pub returns-then-value-eq-STORED : goal.returns-then-value-eq-STORED

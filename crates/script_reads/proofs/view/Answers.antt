@@ -4,7 +4,6 @@ use Rattle.state.specs.Table.{Table, table_of}
 use Rattle.reads.specs.Reads.{view_scene}
 use Rattle.script_reads.specs.Reads.{view}
 use Rattle.script_reads.proofs.ReadLaws.{view-state, viewed-done}
-use borrow.Author.Rules.{rules}
 use Rattle.script_reads.proofs.view.Goals as goal
 
 pub returns : goal.returns

@@ -1,6 +1,5 @@
 -- `script_sets::has_none` meets its contract. Assumes nothing.
 use mathlib.Core.Path.{◌≡◌, sym, ap, ◌∙◌}
-use borrow.Author.Rules.{rules}
 use Rattle.field_sets.specs.Reader.{start, next_item}
 use Rattle.script_sets.proofs.Showing.{has_end, has_cluster, has_no_attribute, has_refusal}
 use Rattle.script_sets.proofs.has_none.Goals as goal

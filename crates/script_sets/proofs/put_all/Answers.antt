@@ -2,7 +2,6 @@
 use Prim.Native.Nat.{ℕ}
 use mathlib.Core.Path.{sym, ap, ◌∙◌}
 use mathlib.Core.List.{List}
-use borrow.Author.Rules.{rules}
 use Rattle.text_output.specs.Writing.{sheet, puts}
 use Rattle.field_sets.specs.Reader.{sets_in}
 use Rattle.script_sets.proofs.Showing.{text_none, text_some}

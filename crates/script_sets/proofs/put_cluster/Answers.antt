@@ -1,6 +1,5 @@
 -- `script_sets::put_cluster` meets its contract. Assumes nothing.
 use mathlib.Core.Path.{sym, ◌∙◌}
-use borrow.Author.Rules.{rules}
 use borrow.Author.Tests.{eq-eqb, ne_eqb}
 use Rattle.text_output.proofs.Writing.{then, puts_one}
 use Rattle.script_sets.proofs.put_cluster.Goals as goal

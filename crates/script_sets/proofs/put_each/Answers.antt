@@ -1,10 +1,8 @@
 -- `script_sets::put_each` meets its contract: what is still to be written makes one sheet of another, step by step. Assumes nothing.
-use Prim.Native.Nat.{ℕ, ◌+◌, ◌-◌}
+use Prim.Native.Nat.{ℕ}
 use mathlib.Core.Path.{◌≡◌, refl, sym, subst, ◌∙◌}
 use mathlib.Core.List.{List, []}
 use mathlib.Core.Option.{get_or}
-use lib.ListN.{length}
-use borrow.Author.Rules.{rules}
 use Rattle.text_output.specs.Writing.{Sheet, sheet, puts}
 use Rattle.field_sets.specs.declared.reader.Cursor.{Cursor}
 use Rattle.field_sets.specs.Reader.{sets_in, next_item}

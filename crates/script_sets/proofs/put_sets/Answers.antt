@@ -1,7 +1,6 @@
 -- `script_sets::put_sets` meets its contract. Assumes nothing.
 use mathlib.Core.Path.{sym, ◌∙◌}
 use mathlib.Core.Option.{IsSome}
-use borrow.Author.Rules.{rules}
 use Rattle.text_output.specs.Writing.{sheet}
 use Rattle.field_sets.specs.Reader.{sets_in}
 use Rattle.script_sets.proofs.Showing.{total_none, total_some, line_refused, line_shown}

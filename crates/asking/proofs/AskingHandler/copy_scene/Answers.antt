@@ -10,7 +10,6 @@ use Rattle.groups.specs.Groups.{Groups, groups_of, member_of}
 use Rattle.groups.proofs.Laws.{groups_fit}
 use Rattle.asking.specs.Asking.{copy_asking}
 use Rattle.asking.proofs.Laws.{asks_told, unsound-asked}
-use borrow.Author.Rules.{rules}
 use Rattle.asking.proofs.AskingHandler.copy_scene.Goals as goal
 
 pub member-source-requires : goal.member-source-requires

@@ -2,13 +2,11 @@
 -- on any others it answers 6. Assumes nothing.
 use mathlib.Core.Path.{◌≡◌, sym, ap, ◌∙◌}
 use mathlib.Core.Bool.{true}
-use borrow.Author.Tests.{not-true, not-false}
 use Rattle.state.specs.Table.{Table, table_of}
 use Rattle.groups.specs.declared.GroupsState.{GroupsState}
 use Rattle.groups.specs.Groups.{Groups, groups_of, groups_sound, no_groups}
 use Rattle.asking.specs.Asking.{factory_reset_both}
 use Rattle.asking.proofs.Laws.{both_here, both_unsound, follows, follows_not}
-use borrow.Author.Rules.{rules}
 use Rattle.asking.proofs.AskingHandler.factory_reset.Goals as goal
 
 pub returns-then-not-is_sound : goal.returns-then-not-is_sound

@@ -2,14 +2,12 @@
 -- all that is told yes, with every match gone. Assumes nothing.
 use mathlib.Core.Path.{◌≡◌, sym, ap, ◌∙◌}
 use mathlib.Core.Bool.{true}
-use borrow.Author.Tests.{not-true, not-false}
 use Rattle.state.specs.Table.{Table, table_of}
 use Rattle.state.specs.Sound.{sound}
 use Rattle.groups.specs.Groups.{Groups, groups_of, groups_sound}
 use Rattle.groups.proofs.Laws.{groups_fit}
 use Rattle.asking.specs.Asking.{leave_group}
 use Rattle.asking.proofs.Laws.{both_in, both_unsound, leaves-unsound, leaves-refused, leaves}
-use borrow.Author.Rules.{rules}
 use Rattle.asking.proofs.AskingHandler.leave.Goals as goal
 
 pub returns-then-not-is_sound : goal.returns-then-not-is_sound

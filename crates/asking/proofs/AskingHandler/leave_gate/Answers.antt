@@ -1,6 +1,5 @@
 -- `AskingHandler::leave_gate` meets its contract. Assumes nothing.
 use mathlib.Core.Path.{refl, sym, ◌∙◌}
-use borrow.Author.Rules.{rules}
 use borrow.Author.Tests.{eq-eqb, ne_eqb}
 use Rattle.requests.specs.Requests.{first_refusal, or_next}
 use Rattle.asking.specs.Asking.{leave_gate}

@@ -1,7 +1,6 @@
 -- `AskingHandler::refused` meets its contract. Assumes nothing.
 use mathlib.Core.Path.{ap, ◌∙◌}
 use Rattle.asking.proofs.Laws.{ended_of}
-use borrow.Author.Rules.{rules}
 use Rattle.asking.proofs.AskingHandler.refused.Goals as goal
 
 pub returns : goal.returns

@@ -2,14 +2,12 @@
 -- not refuse; on any others it answers 6. Assumes nothing.
 use mathlib.Core.Path.{◌≡◌, sym, ap, ◌∙◌}
 use mathlib.Core.Bool.{true}
-use borrow.Author.Tests.{not-true, not-false}
 use Rattle.words.specs.Words.{fabric_keys}
 use Rattle.state.specs.Table.{Table, table_of}
 use Rattle.groups.specs.Groups.{Groups, groups_of, groups_sound, retain_groups}
 use Rattle.groups.proofs.Laws.{groups_fit}
 use Rattle.asking.specs.Asking.{remove_for_fabric_both}
 use Rattle.asking.proofs.Laws.{both_in, both_unsound, follows, follows_not}
-use borrow.Author.Rules.{rules}
 use Rattle.asking.proofs.AskingHandler.remove_for_fabric.Goals as goal
 
 pub returns-then-not-is_sound : goal.returns-then-not-is_sound

@@ -8,7 +8,6 @@ use Rattle.groups.specs.Groups.{Groups, groups_of}
 use Rattle.groups.proofs.Laws.{groups_fit}
 use Rattle.asking.specs.Asking.{group_of_scene, remove_asking}
 use Rattle.asking.proofs.Laws.{asks_told, unsound-asked}
-use borrow.Author.Rules.{rules}
 use Rattle.asking.proofs.AskingHandler.remove_scene.Goals as goal
 
 pub member-member-requires : goal.member-member-requires

@@ -10,7 +10,6 @@ use Rattle.state.specs.Capacity.{place_for}
 use Rattle.state.proofs.Guard.{Admitted, admits, refuses-outcome}
 use Rattle.state.proofs.Changes.{found-scene}
 use Rattle.commands.specs.Commands.{add_scene}
-use borrow.Author.Rules.{rules}
 use Rattle.commands.proofs.Commands.add_scene.Goals as goal
 
 pub returns-then-gate-ne-SUCCESS : goal.returns-then-gate-ne-SUCCESS

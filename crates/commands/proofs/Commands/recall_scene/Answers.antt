@@ -13,7 +13,6 @@ use Rattle.state.specs.Answer.{result_of}
 use Rattle.state.proofs.Guard.{Admitted, admits, refuses-outcome, result_in}
 use Rattle.state.proofs.Changes.{found-scene, changed_current}
 use Rattle.commands.specs.Commands.{recall_found, recall_scene}
-use borrow.Author.Rules.{rules}
 use Rattle.commands.proofs.Commands.recall_scene.Goals as goal
 
 pub returns-then-gate-ne-SUCCESS : goal.returns-then-gate-ne-SUCCESS

@@ -14,7 +14,6 @@ use Rattle.state.proofs.Guard.{Admitted, admits, refuses-outcome, result_in}
 use Rattle.state.proofs.Changes.{changed_current, retained_recorded, retained_table}
 use Rattle.commands.specs.Commands.{remove_all_scenes}
 use Rattle.commands.proofs.Laws.{nothing_went, something_went}
-use borrow.Author.Rules.{rules}
 use Rattle.commands.proofs.Commands.remove_all_scenes.Goals as goal
 
 pub returns-then-gate-ne-SUCCESS : goal.returns-then-gate-ne-SUCCESS

@@ -15,7 +15,6 @@ use Rattle.state.proofs.Laws.{found_under}
 use Rattle.state.proofs.Guard.{Admitted, admits, refuses-outcome, result_in}
 use Rattle.state.proofs.Changes.{found-scene, changed_both, swapped_recorded}
 use Rattle.commands.specs.Commands.{remove_found, remove_scene}
-use borrow.Author.Rules.{rules}
 use Rattle.commands.proofs.Commands.remove_scene.Goals as goal
 
 pub returns-then-gate-ne-SUCCESS : goal.returns-then-gate-ne-SUCCESS

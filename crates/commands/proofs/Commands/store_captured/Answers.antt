@@ -17,7 +17,6 @@ use Rattle.commands.specs.Commands.{prior_time, stored, store_captured}
 use Rattle.commands.specs.Counted.{keys_compared, counted_of, counted}
 use Rattle.commands.proofs.Laws.{upserted_prior, not_stored, was_stored}
 use Rattle.commands.proofs.Counting.{counted_in, counts_none, counts-compared, compared-within}
-use borrow.Author.Rules.{rules}
 use Rattle.commands.proofs.Commands.store_captured.Goals as goal
 
 pub slice_bounds-upsert_scene-end : goal.slice_bounds-upsert_scene-end

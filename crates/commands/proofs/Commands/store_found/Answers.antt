@@ -9,7 +9,6 @@ use Rattle.state.proofs.Guard.{Admitted, admits}
 use Rattle.commands.specs.Commands.{store_scene}
 use Rattle.commands.specs.Counted.{store_counted}
 use Rattle.commands.proofs.Counting.{counts-passed, counts-refused}
-use borrow.Author.Rules.{rules}
 use Rattle.commands.proofs.Commands.store_found.Goals as goal
 
 pub returns-then-gate-ne-SUCCESS : goal.returns-then-gate-ne-SUCCESS

@@ -3,7 +3,6 @@ use native.Mathlib.Omega.{arith}
 use Rattle.state.specs.Table.{Table, table_of}
 use Rattle.state.proofs.Laws.{sound-room}
 use Rattle.state.proofs.Changes.{found-scene}
-use borrow.Author.Rules.{rules}
 use Rattle.commands.proofs.Commands.store_scene.Goals as goal
 
 pub find-found-requires : goal.find-found-requires

@@ -1,5 +1,4 @@
 -- `host_fields::scenes_add_read_unchecked` meets its contract. Assumes nothing.
-use borrow.Author.Rules.{rules}
 use Rattle.host_fields.proofs.unchecked.scenes_add_read_unchecked.Goals as goal
 
 -- the condition is the one that the host meets

@@ -1,5 +1,4 @@
 -- `host_groups::scenes_factory_reset_and_groups` meets its contract. Assumes nothing.
-use borrow.Author.Rules.{rules}
 use Rattle.host_groups.proofs.both.scenes_factory_reset_and_groups.Goals as goal
 
 pub returns : goal.returns

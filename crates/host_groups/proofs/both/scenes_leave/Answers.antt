@@ -1,5 +1,4 @@
 -- `host_groups::scenes_leave` meets its contract. Assumes nothing.
-use borrow.Author.Rules.{rules}
 use Rattle.host_groups.proofs.both.scenes_leave.Goals as goal
 
 pub returns : goal.returns

@@ -3,7 +3,6 @@ use mathlib.Core.Path.{◌∙◌}
 use Rattle.state.specs.Table.{Table, table_of}
 use Rattle.groups.specs.Groups.{Groups, groups_of}
 use Rattle.asking.specs.Asking.{lookup_asking}
-use borrow.Author.Rules.{rules}
 use Rattle.host_groups.proofs.query.scenes_recall_lookup_asking.Goals as goal
 
 pub returns : goal.returns

@@ -1,5 +1,4 @@
 -- `host_groups::scenes_view_asking` meets its contract. Assumes nothing.
-use borrow.Author.Rules.{rules}
 use Rattle.host_groups.proofs.query.scenes_view_asking.Goals as goal
 
 pub returns : goal.returns

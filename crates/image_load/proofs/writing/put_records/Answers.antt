@@ -1,15 +1,12 @@
 -- `image_load::writing::put_records` meets its contract. Assumes nothing.
-use Prim.Native.Nat.{◌-◌}
 use mathlib.Core.Path.{sym, ap, ◌∙◌}
 use mathlib.Core.Option.{none, some}
 use native.Mathlib.Omega.{arith}
-use lib.ListN.{length}
 use Rattle.tlv.specs.declared.values.Number.{Number}
 use Rattle.tlv.proofs.Walks.{member_on}
 use Rattle.tlv.specs.Values.{counting}
 use Rattle.image_reader.specs.Entries.{record_at}
-use Rattle.image_load.proofs.Placing.{Laying, lay_start, lay_end, lay_damaged, lay_unread, lay_room, lay_next}
-use borrow.Author.Rules.{rules}
+use Rattle.image_load.proofs.Placing.{lay_start, lay_end, lay_damaged, lay_unread, lay_room, lay_next}
 use Rattle.image_load.proofs.writing.put_records.Goals as goal
 
 pub loop-next-init : goal.loop-next-init

@@ -2,7 +2,6 @@
 use native.Mathlib.Omega.{arith}
 use Rattle.slots.specs.Slots.{slots_of}
 use Rattle.image_load.proofs.Placing.{restores}
-use borrow.Author.Rules.{rules}
 use Rattle.image_load.proofs.writing.restore.Goals as goal
 
 pub put_entries-count-requires : goal.put_entries-count-requires

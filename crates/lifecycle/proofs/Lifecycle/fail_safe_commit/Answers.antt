@@ -3,7 +3,6 @@ use mathlib.Core.Path.{ap, ◌∙◌}
 use Rattle.state.specs.Table.{table_of}
 use Rattle.state.proofs.Guard.{ungated, result_in}
 use Rattle.lifecycle.specs.Lifecycle.{fail_safe}
-use borrow.Author.Rules.{rules}
 use Rattle.lifecycle.proofs.Lifecycle.fail_safe_commit.Goals as goal
 
 pub returns : goal.returns

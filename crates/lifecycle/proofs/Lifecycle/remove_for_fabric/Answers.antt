@@ -14,7 +14,6 @@ use Rattle.state.proofs.Guard.{Admitted, admits, refuses-outcome, result_in}
 use Rattle.state.proofs.Changes.{retained_entries, retained_table}
 use Rattle.lifecycle.specs.Lifecycle.{removed_fabric, remove_for_fabric}
 use Rattle.lifecycle.proofs.Laws.{others_le, removed-fabric}
-use borrow.Author.Rules.{rules}
 use Rattle.lifecycle.proofs.Lifecycle.remove_for_fabric.Goals as goal
 
 pub returns-then-gate-ne-SUCCESS : goal.returns-then-gate-ne-SUCCESS

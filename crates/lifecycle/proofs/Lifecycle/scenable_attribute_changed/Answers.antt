@@ -10,7 +10,6 @@ use Rattle.state.specs.Answer.{result_of}
 use Rattle.state.proofs.Guard.{ungated, result_in}
 use Rattle.state.proofs.Changes.{changed_current}
 use Rattle.lifecycle.specs.Lifecycle.{scenable_attribute_changed}
-use borrow.Author.Rules.{rules}
 use Rattle.lifecycle.proofs.Lifecycle.scenable_attribute_changed.Goals as goal
 
 pub invalidate_current-requires : goal.invalidate_current-requires

@@ -6,7 +6,6 @@ use Rattle.state.specs.declared.ScenesState.{ScenesState}
 use Rattle.state.specs.Table.{table_of}
 use Rattle.state.proofs.Guard.{ungated, result_in}
 use Rattle.lifecycle.specs.Lifecycle.{startup}
-use borrow.Author.Rules.{rules}
 use Rattle.lifecycle.proofs.Lifecycle.startup.Goals as goal
 
 pub returns : goal.returns

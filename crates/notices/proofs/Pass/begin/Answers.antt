@@ -1,7 +1,5 @@
 -- `Pass::begin` meets its contract. Assumes nothing.
 use mathlib.Core.Path.{refl, sym, ◌∙◌}
-use borrow.Author.Rules.{rules}
-use borrow.Author.Tests.{not-true, not-false}
 use Rattle.notices.proofs.Pass.begin.Goals as goal
 
 pub returns-then-not-is_head_sound : goal.returns-then-not-is_head_sound

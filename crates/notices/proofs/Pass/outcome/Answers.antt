@@ -1,6 +1,5 @@
 -- `Pass::outcome` meets its contract. Assumes nothing.
 use mathlib.Core.Path.{refl}
-use borrow.Author.Rules.{rules}
 use Rattle.notices.proofs.Pass.outcome.Goals as goal
 
 pub returns-then-self : goal.returns-then-self

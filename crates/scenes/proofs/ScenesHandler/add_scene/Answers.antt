@@ -2,7 +2,6 @@
 use mathlib.Core.Path.{sym, ◌∙◌}
 use Rattle.state.proofs.Guard.{unsound-outcome}
 use Rattle.commands.specs.Commands.{add_scene}
-use borrow.Author.Rules.{rules}
 use Rattle.scenes.proofs.ScenesHandler.add_scene.Goals as goal
 
 pub add_scene-requires : goal.add_scene-requires

@@ -2,7 +2,6 @@
 use mathlib.Core.Path.{sym, ◌∙◌}
 use Rattle.state.proofs.Guard.{unsound-outcome}
 use Rattle.copies.specs.Copy.{copy_scene}
-use borrow.Author.Rules.{rules}
 use Rattle.scenes.proofs.ScenesHandler.copy_scene.Goals as goal
 
 pub copy_scene-requires : goal.copy_scene-requires

@@ -2,7 +2,6 @@
 use mathlib.Core.Path.{sym, ◌∙◌}
 use Rattle.state.proofs.Guard.{unsound-outcome}
 use Rattle.lifecycle.specs.Lifecycle.{factory_reset}
-use borrow.Author.Rules.{rules}
 use Rattle.scenes.proofs.ScenesHandler.factory_reset.Goals as goal
 
 pub factory_reset-requires : goal.factory_reset-requires

@@ -2,7 +2,6 @@
 use mathlib.Core.Path.{sym, ◌∙◌}
 use Rattle.state.proofs.Guard.{unsound-outcome}
 use Rattle.lifecycle.specs.Lifecycle.{fail_safe}
-use borrow.Author.Rules.{rules}
 use Rattle.scenes.proofs.ScenesHandler.fail_safe_commit.Goals as goal
 
 pub fail_safe_commit-requires : goal.fail_safe_commit-requires

@@ -1,7 +1,6 @@
 -- `ScenesHandler::field_bytes` meets its contract: on a sound table it is the call of this name, and on any other no bytes. Assumes nothing.
 use mathlib.Core.Path.{sym, ◌∙◌}
 use Rattle.reads.specs.Reads.{field_bytes}
-use borrow.Author.Rules.{rules}
 use Rattle.scenes.proofs.ScenesHandler.field_bytes.Goals as goal
 
 pub field_bytes-requires : goal.field_bytes-requires

@@ -5,7 +5,6 @@ use mathlib.Core.List.{List}
 use Rattle.state.specs.Table.{Table, table_of}
 use Rattle.state.proofs.Guard.{answers_unsound}
 use Rattle.reads.specs.Reads.{listed_of, unlisted, get_scene_membership}
-use borrow.Author.Rules.{rules}
 use Rattle.scenes.proofs.ScenesHandler.get_scene_membership.Goals as goal
 
 pub get_scene_membership-requires : goal.get_scene_membership-requires

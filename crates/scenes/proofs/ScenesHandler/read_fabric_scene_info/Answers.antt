@@ -2,7 +2,6 @@
 use mathlib.Core.Path.{sym, ◌∙◌}
 use Rattle.state.proofs.Guard.{answers_unsound}
 use Rattle.reads.specs.Reads.{read_fabric_scene_info}
-use borrow.Author.Rules.{rules}
 use Rattle.scenes.proofs.ScenesHandler.read_fabric_scene_info.Goals as goal
 
 pub read_fabric_scene_info-requires : goal.read_fabric_scene_info-requires

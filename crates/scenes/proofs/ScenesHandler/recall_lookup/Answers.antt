@@ -2,7 +2,6 @@
 use mathlib.Core.Path.{sym, ◌∙◌}
 use Rattle.state.proofs.Guard.{answers_unsound}
 use Rattle.reads.specs.Reads.{recall_lookup}
-use borrow.Author.Rules.{rules}
 use Rattle.scenes.proofs.ScenesHandler.recall_lookup.Goals as goal
 
 pub recall_lookup-requires : goal.recall_lookup-requires

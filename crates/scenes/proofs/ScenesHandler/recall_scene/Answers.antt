@@ -2,7 +2,6 @@
 use mathlib.Core.Path.{sym, ◌∙◌}
 use Rattle.state.proofs.Guard.{unsound-outcome}
 use Rattle.commands.specs.Commands.{recall_scene}
-use borrow.Author.Rules.{rules}
 use Rattle.scenes.proofs.ScenesHandler.recall_scene.Goals as goal
 
 pub recall_scene-requires : goal.recall_scene-requires

@@ -2,7 +2,6 @@
 use mathlib.Core.Path.{sym, ◌∙◌}
 use Rattle.state.proofs.Guard.{unsound-outcome}
 use Rattle.commands.specs.Commands.{remove_all_scenes}
-use borrow.Author.Rules.{rules}
 use Rattle.scenes.proofs.ScenesHandler.remove_all_scenes.Goals as goal
 
 pub remove_all_scenes-requires : goal.remove_all_scenes-requires

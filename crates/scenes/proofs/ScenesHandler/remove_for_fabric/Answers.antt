@@ -2,7 +2,6 @@
 use mathlib.Core.Path.{sym, ◌∙◌}
 use Rattle.state.proofs.Guard.{unsound-outcome}
 use Rattle.lifecycle.specs.Lifecycle.{remove_for_fabric}
-use borrow.Author.Rules.{rules}
 use Rattle.scenes.proofs.ScenesHandler.remove_for_fabric.Goals as goal
 
 pub remove_for_fabric-requires : goal.remove_for_fabric-requires

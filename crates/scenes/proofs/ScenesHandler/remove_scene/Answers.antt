@@ -2,7 +2,6 @@
 use mathlib.Core.Path.{sym, ◌∙◌}
 use Rattle.state.proofs.Guard.{unsound-outcome}
 use Rattle.commands.specs.Commands.{remove_scene}
-use borrow.Author.Rules.{rules}
 use Rattle.scenes.proofs.ScenesHandler.remove_scene.Goals as goal
 
 pub remove_scene-requires : goal.remove_scene-requires

@@ -2,7 +2,6 @@
 use mathlib.Core.Path.{sym, ◌∙◌}
 use Rattle.state.proofs.Guard.{unsound-outcome}
 use Rattle.lifecycle.specs.Lifecycle.{scenable_attribute_changed}
-use borrow.Author.Rules.{rules}
 use Rattle.scenes.proofs.ScenesHandler.scenable_attribute_changed.Goals as goal
 
 pub scenable_attribute_changed-requires : goal.scenable_attribute_changed-requires

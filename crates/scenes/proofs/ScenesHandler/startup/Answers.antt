@@ -2,7 +2,6 @@
 use mathlib.Core.Path.{sym, ◌∙◌}
 use Rattle.state.proofs.Guard.{unsound-outcome}
 use Rattle.lifecycle.specs.Lifecycle.{startup}
-use borrow.Author.Rules.{rules}
 use Rattle.scenes.proofs.ScenesHandler.startup.Goals as goal
 
 pub startup-requires : goal.startup-requires

@@ -9,7 +9,6 @@ use Rattle.state.specs.Sound.{sound}
 use Rattle.commands.specs.Commands.{store_scene}
 use Rattle.commands.specs.Counted.{store_counted}
 use Rattle.commands.proofs.Counting.{counts-unsound}
-use borrow.Author.Rules.{rules}
 use Rattle.scenes.proofs.ScenesHandler.store_scene.Goals as goal
 
 pub returns-in_default : goal.returns-in_default

@@ -1,5 +1,4 @@
 -- `ScenesHandler::unsound` meets its contract. Assumes nothing.
-use borrow.Author.Rules.{rules}
 use Rattle.scenes.proofs.ScenesHandler.unsound.Goals as goal
 
 pub returns : goal.returns

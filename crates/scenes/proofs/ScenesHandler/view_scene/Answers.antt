@@ -2,7 +2,6 @@
 use mathlib.Core.Path.{sym, ◌∙◌}
 use Rattle.state.proofs.Guard.{answers_unsound}
 use Rattle.reads.specs.Reads.{view_scene}
-use borrow.Author.Rules.{rules}
 use Rattle.scenes.proofs.ScenesHandler.view_scene.Goals as goal
 
 pub view_scene-requires : goal.view_scene-requires

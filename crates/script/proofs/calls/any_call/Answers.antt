@@ -3,7 +3,6 @@ use mathlib.Core.Path.{sym, ◌∙◌}
 use Rattle.groups.specs.Groups.{groups_of}
 use Rattle.script_groups.specs.Calls.{group_called}
 use Rattle.script.specs.Calls.{any_call}
-use borrow.Author.Rules.{rules}
 use Rattle.script.proofs.calls.any_call.Goals as goal
 
 pub returns-then-needs_groups : goal.returns-then-needs_groups

@@ -5,7 +5,6 @@ use mathlib.Core.List.{[], ◌∷◌}
 use Rattle.script_lines.specs.Lines.{one_of}
 use Rattle.script_answers.specs.Done.{Done, Called, called_of}
 use Rattle.script.specs.Calls.{call}
-use borrow.Author.Rules.{rules}
 use Rattle.script.proofs.calls.call.Goals as goal
 
 pub returns-then-one_of : goal.returns-then-one_of

@@ -6,7 +6,6 @@ use Rattle.script_groups.specs.Calls.{GroupCalled}
 use Rattle.script.specs.Calls.{any_call}
 use Rattle.script.specs.Running.{Session, session, table_in, groups_in}
 use Rattle.script.proofs.RunLaws.{answer-fits, called-ends}
-use borrow.Author.Rules.{rules}
 use Rattle.script.proofs.runner.called.Goals as goal
 
 pub put_answer-requires : goal.put_answer-requires

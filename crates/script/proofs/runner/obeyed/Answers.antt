@@ -7,7 +7,6 @@ use Rattle.script_sets.specs.Texts.{sets_line}
 use Rattle.script_machine.specs.Machines.{dump_lines}
 use Rattle.script.specs.Running.{Session, session, table_in, groups_in, called}
 use Rattle.script.proofs.RunLaws.{ended, obeys_size, obeys_half, obeys_none, obeys_table, obeys_sets, obeys_call}
-use borrow.Author.Rules.{rules}
 use Rattle.script.proofs.runner.obeyed.Goals as goal
 
 pub returns-then-read-eq78 : goal.returns-then-read-eq78

@@ -11,7 +11,6 @@ use Rattle.script_lines.specs.Values.{bytes_at}
 use Rattle.script.specs.Running.{Session, session, wrong, obeyed, said_runs, run_line}
 use Rattle.script_machine.specs.Machines.{counted}
 use Rattle.script.proofs.RunLaws.{ended, same-words}
-use borrow.Author.Rules.{rules}
 use Rattle.script.proofs.runner.run_line.Goals as goal
 
 pub returns-in-Nothing : goal.returns-in-Nothing

@@ -2,7 +2,6 @@
 use mathlib.Core.Path.{ap, ◌∙◌}
 use Rattle.text_output.specs.Writing.{Sheet, puts}
 use Rattle.script_answers.specs.Answers.{tail_of, answer_line}
-use borrow.Author.Rules.{rules}
 use Rattle.script_answers.proofs.answers.put_answer.Goals as goal
 
 pub returns : goal.returns

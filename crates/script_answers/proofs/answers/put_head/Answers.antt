@@ -2,7 +2,6 @@
 use mathlib.Core.Path.{sym, ap, ◌∙◌}
 use Rattle.text_output.specs.Writing.{puts, writes}
 use Rattle.text_output.proofs.Writing.{puts_one}
-use borrow.Author.Rules.{rules}
 use Rattle.script_answers.proofs.answers.put_head.Goals as goal
 
 pub returns-then-trace : goal.returns-then-trace

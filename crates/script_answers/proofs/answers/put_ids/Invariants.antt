@@ -1,11 +1,9 @@
 -- `script_answers::answers::put_ids` meets its contract. Assumes nothing.
 use Prim.Native.Nat.{◌-◌, ◌≤◌, min}
-use mathlib.Core.Path.{◌≡◌, refl, sym, ap, ◌∙◌}
+use mathlib.Core.Path.{◌≡◌}
 use mathlib.Core.List.{[], ◌∷◌}
-use native.Mathlib.Omega.{arith}
 use lib.ListN.{length, get_or}
-use Rattle.text_output.specs.Writing.{sheet, puts, writes, writes_below, number}
-use Rattle.text_output.proofs.Writing.{below_none, below_more}
+use Rattle.text_output.specs.Writing.{sheet, writes_below, number}
 use Rattle.script_answers.proofs.answers.put_ids.Given as goal
 
 abbrev pub invariant-loop-i : goal.invariant-loop-i

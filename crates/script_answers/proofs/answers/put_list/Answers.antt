@@ -1,7 +1,6 @@
 -- `script_answers::answers::put_list` meets its contract. Assumes nothing.
 use mathlib.Core.Path.{ap, ◌∙◌}
 use Rattle.text_output.specs.Writing.{writes_below}
-use borrow.Author.Rules.{rules}
 use Rattle.script_answers.proofs.answers.put_list.Goals as goal
 
 pub returns : goal.returns

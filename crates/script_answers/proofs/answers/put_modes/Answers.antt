@@ -2,7 +2,6 @@
 use borrow.Author.Tests.{eq-eqb, ne_eqb}
 use Rattle.script_lines.specs.Lines.{not_given}
 use Rattle.text_output.specs.Writing.{puts}
-use borrow.Author.Rules.{rules}
 use Rattle.script_answers.proofs.answers.put_modes.Goals as goal
 
 pub returns-then-modes-eq-NOT_GIVEN : goal.returns-then-modes-eq-NOT_GIVEN

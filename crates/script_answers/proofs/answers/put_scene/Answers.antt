@@ -1,7 +1,6 @@
 -- `script_answers::answers::put_scene` meets its contract. Assumes nothing.
 use mathlib.Core.Path.{◌∙◌}
 use Rattle.text_output.specs.Writing.{puts, writes, spaced, bytes_text}
-use borrow.Author.Rules.{rules}
 use Rattle.script_answers.proofs.answers.put_scene.Goals as goal
 
 pub returns : goal.returns

@@ -1,5 +1,4 @@
 -- `script_answers::answers::put_size_word` meets its contract. Assumes nothing.
-use borrow.Author.Rules.{rules}
 use Rattle.script_answers.proofs.answers.put_size_word.Goals as goal
 
 pub returns-then-trace : goal.returns-then-trace

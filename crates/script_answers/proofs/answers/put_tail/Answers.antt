@@ -1,7 +1,6 @@
 -- `script_answers::answers::put_tail` meets its contract. Assumes nothing.
 use mathlib.Core.Path.{subst}
 use Rattle.script_answers.specs.Answers.{fits}
-use borrow.Author.Rules.{rules}
 use Rattle.script_answers.proofs.answers.put_tail.Goals as goal
 
 pub put_scene-requires : goal.put_scene-requires

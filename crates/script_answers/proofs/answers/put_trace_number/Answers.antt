@@ -1,6 +1,5 @@
 -- `script_answers::answers::put_trace_number` meets its contract. Assumes nothing.
 use Rattle.text_output.specs.Writing.{puts}
-use borrow.Author.Rules.{rules}
 use Rattle.script_answers.proofs.answers.put_trace_number.Goals as goal
 
 pub returns-then-trace : goal.returns-then-trace

@@ -1,7 +1,6 @@
 -- `script_answers::dump::byte_at` meets its contract. Assumes nothing.
 use mathlib.Core.Path.{sym}
 use lib.ListN.{get_or-eq_default}
-use borrow.Author.Rules.{rules}
 use Rattle.script_answers.proofs.dump.byte_at.Goals as goal
 
 pub returns : goal.returns

@@ -1,9 +1,8 @@
 -- `script_answers::dump::put_entries` meets its contract. Assumes nothing.
-use Prim.Native.Nat.{ℕ, ◌-◌, ◌≤◌}
-use mathlib.Core.Path.{◌≡◌, refl, sym, ap, ◌∙◌}
+use Prim.Native.Nat.{ℕ}
+use mathlib.Core.Path.{refl, sym, ap, ◌∙◌}
 use mathlib.Core.List.{List}
 use native.Mathlib.Omega.{arith}
-use lib.ListN.{length}
 use Rattle.text_output.specs.Writing.{sheet, writes, writes_below}
 use Rattle.script_answers.specs.Dump.{entry_shown}
 use Rattle.text_output.proofs.Writing.{below_none, below_more}

@@ -2,7 +2,6 @@
 use mathlib.Core.Path.{ap, ◌∙◌}
 use Rattle.text_output.specs.Writing.{puts, writes}
 use Rattle.script_answers.specs.Dump.{key_texts}
-use borrow.Author.Rules.{rules}
 use Rattle.script_answers.proofs.dump.put_entry.Goals as goal
 
 pub returns : goal.returns

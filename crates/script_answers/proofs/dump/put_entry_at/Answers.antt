@@ -2,7 +2,6 @@
 use mathlib.Core.Path.{◌∙◌}
 use Rattle.text_output.specs.Writing.{Sheet, sheet, writes}
 use Rattle.script_answers.specs.Dump.{entry_texts}
-use borrow.Author.Rules.{rules}
 use Rattle.script_answers.proofs.dump.put_entry_at.Goals as goal
 
 pub returns : goal.returns

@@ -1,11 +1,11 @@
 -- `script_answers::dump::put_groups` meets its contract. Assumes nothing.
-use Prim.Native.Nat.{◌-◌, ◌≤◌, min}
+use Prim.Native.Nat.{min}
 use mathlib.Core.Path.{◌≡◌, refl, sym, ap, ◌∙◌}
 use native.Mathlib.Omega.{arith}
-use lib.ListN.{length, get_or}
-use Rattle.text_output.specs.Writing.{sheet, writes, writes_below}
+use lib.ListN.{length}
+use Rattle.text_output.specs.Writing.{writes}
 use Rattle.text_output.proofs.Writing.{below_none, below_more}
-use Rattle.script_answers.specs.Dump.{group_line, group_lines}
+use Rattle.script_answers.specs.Dump.{group_lines}
 use Rattle.script_answers.proofs.dump.put_groups.Goals as goal
 
 pub loop-i-init : goal.loop-i-init

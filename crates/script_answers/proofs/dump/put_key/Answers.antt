@@ -1,6 +1,5 @@
 -- `script_answers::dump::put_key` meets its contract. Assumes nothing.
 use Rattle.text_output.specs.Writing.{writes}
-use borrow.Author.Rules.{rules}
 use Rattle.script_answers.proofs.dump.put_key.Goals as goal
 
 pub returns : goal.returns

@@ -1,9 +1,9 @@
 -- `script_answers::dump::put_records` meets its contract. Assumes nothing.
-use Prim.Native.Nat.{ℕ, ◌-◌, ◌≤◌}
+use Prim.Native.Nat.{ℕ}
 use mathlib.Core.Path.{◌≡◌, refl, sym, ap, ◌∙◌}
 use native.Mathlib.Omega.{arith}
-use lib.ListN.{length, get_or}
-use Rattle.text_output.specs.Writing.{sheet, writes, writes_below}
+use lib.ListN.{get_or}
+use Rattle.text_output.specs.Writing.{sheet, writes}
 use Rattle.script_answers.specs.Dump.{record_line}
 use Rattle.text_output.proofs.Writing.{below_none, below_more}
 use Rattle.script_answers.proofs.dump.put_records.Goals as goal

@@ -1,11 +1,9 @@
 -- `script_answers::dump::put_records` meets its contract. Assumes nothing.
-use Prim.Native.Nat.{ℕ, ◌-◌, ◌≤◌}
-use mathlib.Core.Path.{◌≡◌, refl, sym, ap, ◌∙◌}
-use native.Mathlib.Omega.{arith}
+use Prim.Native.Nat.{◌-◌, ◌≤◌}
+use mathlib.Core.Path.{◌≡◌}
 use lib.ListN.{length, get_or}
-use Rattle.text_output.specs.Writing.{sheet, writes, writes_below}
+use Rattle.text_output.specs.Writing.{sheet, writes_below}
 use Rattle.script_answers.specs.Dump.{record_line}
-use Rattle.text_output.proofs.Writing.{below_none, below_more}
 use Rattle.script_answers.proofs.dump.put_records.Given as goal
 
 abbrev pub invariant-loop-i : goal.invariant-loop-i

@@ -7,7 +7,6 @@ use Rattle.state.specs.Table.{Table, table_of}
 use Rattle.text_output.specs.Writing.{sheet, writes, writes_below}
 use Rattle.script_answers.specs.Dump.{counts_line, entry_line, stored_in, entry_shown, record_line, table_lines}
 use Rattle.script_answers.proofs.DumpLaws.{stored_most, shown_lines}
-use borrow.Author.Rules.{rules}
 use Rattle.script_answers.proofs.dump.put_table.Goals as goal
 
 -- the lines of the entries are the table's

@@ -4,7 +4,6 @@ use mathlib.Core.Path.{◌∙◌}
 use lib.ListN.{take, drop}
 use borrow.Author.Tests.{lt-ltb, le-ltb}
 use Rattle.words.specs.Constants.{stride}
-use borrow.Author.Rules.{rules}
 use Rattle.script_answers.proofs.dump.shown_bytes.Goals as goal
 
 pub returns-then-i-stored : goal.returns-then-i-stored

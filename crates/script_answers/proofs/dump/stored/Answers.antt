@@ -1,6 +1,5 @@
 -- `script_answers::dump::stored` meets its contract. Assumes nothing.
 use mathlib.Core.Path.{sym, ◌∙◌}
-use borrow.Author.Rules.{rules}
 use Rattle.script_answers.proofs.dump.stored.Goals as goal
 
 pub returns-then-is_sound : goal.returns-then-is_sound

@@ -7,7 +7,6 @@ use Rattle.script_lines.specs.Values.{bytes_at}
 use Rattle.script_answers.specs.Done.{plain}
 use Rattle.script_answers.proofs.DoneLaws.{plain_done}
 use Rattle.script_asking.specs.Asked.{add_read_asked}
-use borrow.Author.Rules.{rules}
 use Rattle.script_asking.proofs.command.add_read.Goals as goal
 
 pub returns : goal.returns

@@ -2,7 +2,6 @@
 use native.Mathlib.Omega.{arith}
 use borrow.Author.Tests.{ne_eqb}
 use Rattle.script_asking.specs.Asked.{asked_command}
-use borrow.Author.Rules.{rules}
 use Rattle.script_asking.proofs.command.asked_command.Goals as goal
 
 pub returns-in-65 : goal.returns-in-65

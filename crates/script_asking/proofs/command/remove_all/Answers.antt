@@ -6,7 +6,6 @@ use Rattle.asking.specs.Asking.{remove_all_asking}
 use Rattle.script_answers.specs.Done.{plain}
 use Rattle.script_answers.proofs.DoneLaws.{plain_done}
 use Rattle.script_asking.specs.Asked.{remove_all_asked}
-use borrow.Author.Rules.{rules}
 use Rattle.script_asking.proofs.command.remove_all.Goals as goal
 
 pub returns : goal.returns

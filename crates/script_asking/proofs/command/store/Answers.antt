@@ -5,7 +5,6 @@ use Rattle.groups.specs.Groups.{Groups, groups_of}
 use Rattle.asking.specs.Asking.{store_asking}
 use Rattle.script_commands.specs.Commands.{store_done}
 use Rattle.script_asking.specs.Asked.{store_asked}
-use borrow.Author.Rules.{rules}
 use Rattle.script_asking.proofs.command.store.Goals as goal
 
 pub returns : goal.returns

@@ -3,7 +3,6 @@ use native.Mathlib.Omega.{arith}
 use borrow.Author.Tests.{ne_eqb}
 use Rattle.script_answers.specs.Done.{called_of}
 use Rattle.script_asking.specs.Asked.{asked_query}
-use borrow.Author.Rules.{rules}
 use Rattle.script_asking.proofs.query.asked_query.Goals as goal
 
 pub returns-in-86 : goal.returns-in-86

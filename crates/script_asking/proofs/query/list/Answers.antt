@@ -6,7 +6,6 @@ use Rattle.asking.specs.Asking.{membership_asking}
 use Rattle.script_reads.proofs.ReadLaws.{listed-done}
 use Rattle.script_asking.specs.Asked.{list_asked}
 use Rattle.script_asking.proofs.AskedLaws.{list-state}
-use borrow.Author.Rules.{rules}
 use Rattle.script_asking.proofs.query.list.Goals as goal
 
 pub returns : goal.returns

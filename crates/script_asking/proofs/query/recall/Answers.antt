@@ -6,7 +6,6 @@ use Rattle.groups.specs.Groups.{Groups, groups_of}
 use Rattle.asking.specs.Asking.{lookup_asking, recall_asking}
 use Rattle.script_reads.proofs.ReadLaws.{recalled-done}
 use Rattle.script_asking.specs.Asked.{recall_asked}
-use borrow.Author.Rules.{rules}
 use Rattle.script_asking.proofs.query.recall.Goals as goal
 
 pub returns : goal.returns

@@ -6,7 +6,6 @@ use Rattle.asking.specs.Asking.{view_asking}
 use Rattle.script_reads.proofs.ReadLaws.{viewed-done}
 use Rattle.script_asking.specs.Asked.{view_asked}
 use Rattle.script_asking.proofs.AskedLaws.{view-state}
-use borrow.Author.Rules.{rules}
 use Rattle.script_asking.proofs.query.view.Goals as goal
 
 pub returns : goal.returns

@@ -5,7 +5,6 @@ use Rattle.words.proofs.Tests.{and_true}
 use Rattle.words.specs.Conditions.{all_of}
 use Rattle.script_events.specs.Writes.{entry_fits}
 use Rattle.script_events.proofs.WriteLaws.{nonzero}
-use borrow.Author.Rules.{rules}
 use Rattle.script_events.proofs.writes.entry_fits.Goals as goal
 
 pub returns-then-fabric-eq0 : goal.returns-then-fabric-eq0

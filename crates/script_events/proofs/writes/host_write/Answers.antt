@@ -2,7 +2,6 @@
 use native.Mathlib.Omega.{arith}
 use borrow.Author.Tests.{ne_eqb}
 use Rattle.script_events.specs.Writes.{host_write}
-use borrow.Author.Rules.{rules}
 use Rattle.script_events.proofs.writes.host_write.Goals as goal
 
 pub returns-in-75 : goal.returns-in-75

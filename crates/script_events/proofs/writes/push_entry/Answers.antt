@@ -12,7 +12,6 @@ use Rattle.script_answers.specs.declared.Answer.{Answer}
 use Rattle.script_answers.specs.Done.{done_of}
 use Rattle.script_events.specs.Writes.{raw}
 use Rattle.script_events.proofs.WriteLaws.{entry_pushed, entry-refused, entry_test, entry-room}
-use borrow.Author.Rules.{rules}
 use Rattle.script_events.proofs.writes.push_entry.Goals as goal
 
 pub put-requires : goal.put-requires

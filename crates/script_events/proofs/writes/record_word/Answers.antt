@@ -1,6 +1,5 @@
 -- `script_events::writes::record_word` meets its contract. Assumes nothing.
 use borrow.Author.Tests.{ne_eqb}
-use borrow.Author.Rules.{rules}
 use Rattle.script_events.proofs.writes.record_word.Goals as goal
 
 pub returns-then-valid-eq0 : goal.returns-then-valid-eq0

@@ -5,7 +5,6 @@ use Rattle.state.specs.Table.{table_of}
 use Rattle.script_answers.specs.declared.Answer.{Answer}
 use Rattle.script_answers.specs.Done.{done_of}
 use Rattle.script_events.specs.Writes.{raw, with_version, set_version}
-use borrow.Author.Rules.{rules}
 use Rattle.script_events.proofs.writes.set_version.Goals as goal
 
 pub returns : goal.returns

@@ -3,7 +3,6 @@ use mathlib.Core.Path.{sym, ◌∙◌}
 use Rattle.groups.specs.Groups.{Groups, groups_of}
 use Rattle.script_answers.specs.Done.{called_of}
 use Rattle.script_groups.specs.Calls.{group_called, group_called_of, group_call}
-use borrow.Author.Rules.{rules}
 use Rattle.script_groups.proofs.calls.group_call.Goals as goal
 
 pub returns-then-one_of : goal.returns-then-one_of

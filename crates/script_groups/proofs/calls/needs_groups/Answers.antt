@@ -1,7 +1,6 @@
 -- `script_groups::calls::needs_groups` meets its contract. Assumes nothing.
 use mathlib.Core.Path.{sym, ◌∙◌}
 use Rattle.script_groups.specs.Calls.{needs_groups}
-use borrow.Author.Rules.{rules}
 use Rattle.script_groups.proofs.calls.needs_groups.Goals as goal
 
 pub returns-then-one_of : goal.returns-then-one_of

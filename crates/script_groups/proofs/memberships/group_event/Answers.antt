@@ -2,7 +2,6 @@
 use native.Mathlib.Omega.{arith}
 use borrow.Author.Tests.{ne_eqb}
 use Rattle.script_groups.specs.Memberships.{group_event}
-use borrow.Author.Rules.{rules}
 use Rattle.script_groups.proofs.memberships.group_event.Goals as goal
 
 pub returns-in-74 : goal.returns-in-74

@@ -7,7 +7,6 @@ use Rattle.groups.specs.Groups.{groups_of, read_group}
 use Rattle.script_answers.specs.Done.{read_of}
 use Rattle.script_groups.specs.Memberships.{group_done, held_done, held}
 use Rattle.script_groups.proofs.GroupLaws.{ends}
-use borrow.Author.Rules.{rules}
 use Rattle.script_groups.proofs.memberships.held.Goals as goal
 
 pub returns : goal.returns

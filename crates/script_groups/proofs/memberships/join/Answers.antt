@@ -5,7 +5,6 @@ use Rattle.state.specs.Table.{table_of}
 use Rattle.groups.specs.Groups.{Joined, groups_of, join_group}
 use Rattle.script_groups.specs.Memberships.{join_done, join}
 use Rattle.script_groups.proofs.GroupLaws.{ends}
-use borrow.Author.Rules.{rules}
 use Rattle.script_groups.proofs.memberships.join.Goals as goal
 
 pub returns : goal.returns

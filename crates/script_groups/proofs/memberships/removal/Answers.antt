@@ -5,7 +5,6 @@ use Rattle.groups.specs.Groups.{Groups, groups_of}
 use Rattle.asking.specs.Asking.{remove_for_fabric_both}
 use Rattle.script_groups.specs.Memberships.{both_done, removal}
 use Rattle.script_groups.proofs.GroupLaws.{both_done_lem}
-use borrow.Author.Rules.{rules}
 use Rattle.script_groups.proofs.memberships.removal.Goals as goal
 
 pub returns : goal.returns

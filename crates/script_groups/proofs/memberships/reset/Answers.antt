@@ -4,7 +4,6 @@ use Rattle.groups.specs.Groups.{Groups, groups_of}
 use Rattle.asking.specs.Asking.{factory_reset_both}
 use Rattle.script_groups.specs.Memberships.{reset}
 use Rattle.script_groups.proofs.GroupLaws.{both_done_lem}
-use borrow.Author.Rules.{rules}
 use Rattle.script_groups.proofs.memberships.reset.Goals as goal
 
 pub returns : goal.returns

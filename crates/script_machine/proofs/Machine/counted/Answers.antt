@@ -1,5 +1,5 @@
 -- `script_machine::Machine::counted` meets its contract. Assumes nothing.
-use Rattle.std.proofs.Common.{ℕ, ap, rules}
+use Rattle.std.proofs.Common.{ℕ, ap}
 use Rattle.script_machine.specs.declared.Machine.{Machine}
 use Rattle.script_machine.proofs.Machine.counted.Goals as goal
 

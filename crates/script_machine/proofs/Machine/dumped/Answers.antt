@@ -1,5 +1,5 @@
 -- `script_machine::Machine::dumped` meets its contract: the memberships' lines follow the table's. Assumes nothing.
-use Rattle.std.proofs.Common.{refl, ap, ◌∙◌, rules}
+use Rattle.std.proofs.Common.{refl, ap, ◌∙◌}
 use Rattle.script_answers.specs.Dump.{group_lines}
 use Rattle.script_machine.proofs.Machine.dumped.Goals as goal
 

@@ -1,5 +1,5 @@
 -- `script_machine::Machine::new` meets its contract. Assumes nothing.
-use Rattle.std.proofs.Common.{Bool, false, rules}
+use Rattle.std.proofs.Common.{Bool, false}
 use Rattle.state.specs.declared.ScenesState.{ScenesState}
 use Rattle.groups.specs.declared.GroupsState.{GroupsState}
 use Rattle.script_machine.specs.declared.Machine.{Machine}

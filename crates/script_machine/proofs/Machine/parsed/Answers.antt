@@ -1,5 +1,5 @@
 -- `script_machine::Machine::parsed` meets its contract. Assumes nothing.
-use Rattle.std.proofs.Common.{refl, ◌∙◌, rules}
+use Rattle.std.proofs.Common.{refl, ◌∙◌}
 use Rattle.text_output.specs.Writing.{sheet}
 use Rattle.script_sets.specs.Texts.{sets_line}
 use Rattle.script_machine.proofs.Machine.parsed.Goals as goal

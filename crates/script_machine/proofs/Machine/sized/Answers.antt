@@ -1,5 +1,4 @@
 -- `script_machine::Machine::sized` meets its contract. Assumes nothing.
-use Rattle.std.proofs.Common.{rules}
 use Rattle.script_machine.proofs.Machine.sized.Goals as goal
 
 pub returns : goal.returns

@@ -1,4 +1,4 @@
--- `ScenesState::inBounds` meets its contract. Assumes nothing.
+-- `ScenesState::in_bounds` meets its contract. Assumes nothing.
 use Rattle.std.proofs.Common.{le-leb}
 use borrow.Author.Tests.{lt-leb}
 use Rattle.words.specs.Conditions.{all_of}
