@@ -31,7 +31,7 @@ def signatures():
         crate = parts[1]
         module = [p for p in parts[3:-1]] + ([parts[-1][:-3]] if parts[-1] not in ("lib.rt", "main.rt") else [])
         text = re.sub(r"//[^\n]*", "", read(path))
-        owner, depth_owner = None, None
+        owner = None
         for m in re.finditer(r"^impl (\w+)|^}|^ *(?:pub(?:\(crate\))? )?(?:const )?(?:unsafe )?(?:extern \"C\" )?fn (\w+)\s*(?:<[^>]*>)?\(", text, re.M):
             if m[1]:
                 owner = m[1]
@@ -254,9 +254,6 @@ class Turn:
                     self.left.append("a helper that is not read: " + p["name"])
                     continue
                 result = m[4]
-                if not m[3]:
-                    # further binders: (c : tie.X) (m : Y) → R
-                    pass
                 if re.match(r"tie\.\S+( invariant-\S+| decreases-\S+)*$", result):
                     paths.add(p["name"])
                 else:
@@ -363,7 +360,6 @@ class Turn:
             rest = text[m.end() :]
             if chain in bases:
                 bases.add(name)
-                rest = rest
                 text = text[: m.start()] + re.sub(rf"{B}{re.escape(name)}{E}", chain, rest)
                 continue
             segs = chain.split(".")[1:]
@@ -451,11 +447,9 @@ class Turn:
         self.left.append(f"a clause by position: {fields} {rest}")
         return rest
 
-    def helper_lets(self, text, done):
+    def helper_lets(self, text):
         """The helpers that a term uses, as lets in front of it."""
         lets, unfolding = [], []
-        for name, (p, result) in self.helpers.items():
-            pass
         wanted, todo = set(), [text]
         bodies = {}
         while todo:
@@ -493,7 +487,7 @@ class Turn:
     def answer(self, p, args, body, old, new, comment):
         var = args[0] if args else "c"
         t = self.term(body, {var})
-        lets, unfolding = self.helper_lets(body, None)
+        lets, unfolding = self.helper_lets(body)
         t = self.unapply(t)
         flat = re.sub(r"\s+", " ", t)
         trivial = r"(search rules|omega arith|refl|tt)"
