@@ -3,13 +3,17 @@ use Prim.Native.Nat.{ℕ}
 use mathlib.Core.Path.{◌≡◌, refl, sym, ap, ◌∙◌}
 use mathlib.Core.Bool.{true, false}
 use mathlib.Core.List.{List, [], ◌∷◌}
-use mathlib.Core.Option.{Option, none, some}
 use native.Mathlib.Omega.{arith}
 use lib.Dec.{eqb}
 use lib.ListN.{length}
 use borrow.Author.Tests.{eq-eqb, ne_eqb, eqb-true, eqb-false}
+use Rattle.std.proofs.Common.{Option, Some, None}
+use Rattle.std.proofs.lemmas.Option.{none-some}
 use Rattle.words.specs.Constants.{success, bad_field_sets, max_fields}
 use Rattle.words.specs.declared.SceneKey.{SceneKey}
+use Rattle.words.specs.declared.Refusal.{Refusal}
+use Rattle.words.specs.Refusals.{number_of}
+use Rattle.words.proofs.Refusals.{refusal-number}
 use Rattle.requests.specs.declared.Membership.{Membership}
 use Rattle.requests.specs.Requests.{or_next, first_refusal, pairs_gate, fields_gate, add_gate}
 use Rattle.requests.proofs.Laws.{next_pass, next_refuse, next_last, next_assoc, first_append}
@@ -20,20 +24,19 @@ use Rattle.state.specs.Change.{saved, upsert}
 use Rattle.state.specs.Answer.{Result, refused, refusal_of, guarded}
 use Rattle.state.proofs.Guard.{result_in, refuses, refuses-outcome}
 use Rattle.commands.specs.Commands.{add_scene}
-use Rattle.field_sets.specs.declared.reader.Total.TheVariants.{Counted, Unreadable}
 use Rattle.field_sets.specs.Reader.{ExtensionFieldSet, sets_in, pairs_of, total_of, holds_pairs}
 use Rattle.add_read.specs.Adding.{field_sets_gate, early_gates, read_gate, add_read_gate, add_scene_read, AsListed, ElseRefused}
 
 -- ---- what was counted
 
 module _ (n : ℕ) where
-  unread_holds : (r : Option (List ExtensionFieldSet)) → total_of r ≡ Unreadable → holds_pairs n r ≡ false
-  unread_holds none e = refl
-  unread_holds (some ss) e = let z : ◌≡◌ {A = ℕ} 0 1 = cc in let w : ⊥ = omega arith in absurd w
+  unread_holds : (r : Option (List ExtensionFieldSet)) → total_of r ≡ None → holds_pairs n r ≡ false
+  unread_holds None e = refl
+  unread_holds (Some ss) e = absurd (none-some _ (sym e))
 
-  counted_holds : (r : Option (List ExtensionFieldSet)) (m : ℕ) → total_of r ≡ Counted m → holds_pairs n r ≡ eqb m n
-  counted_holds none m e = let z : ◌≡◌ {A = ℕ} 0 1 = cc in let w : ⊥ = omega arith in absurd w
-  counted_holds (some ss) m e = let p : length (pairs_of ss) ≡ m = cc in ap (λ (k : ℕ). eqb k n) p
+  counted_holds : (r : Option (List ExtensionFieldSet)) (m : ℕ) → total_of r ≡ Some m → holds_pairs n r ≡ eqb m n
+  counted_holds None m e = absurd (none-some m e)
+  counted_holds (Some ss) m e = let p : length (pairs_of ss) ≡ m = cc in ap (λ (k : ℕ). eqb k n) p
 
 module _ (key : SceneKey) (time : ℕ) (member : Membership) where
   abbrev early : ℕ
@@ -76,6 +79,10 @@ module _ (key : SceneKey) (time : ℕ) (member : Membership) where
     pub read_early : (early ≡ success → ⊥) → early ≡ read_gate key time member pairs ext
     read_early n = sym (read-parts ∙ next_refuse early (field_sets_gate pairs ext) n)
 
+    -- as the code makes them: an add's refusal with no pairs and no fields
+    pub refused_early : (r : Refusal) → number_of r ≡ add_gate key time member [] max_fields 0 → read_gate key time member pairs ext ≡ number_of r
+    refused_early r e = let f = e ∙ early_gate in sym (f ∙ read_early (λ p. refusal-number r (f ∙ p)))
+
     read-refused : early ≡ success → holds_pairs (length pairs) (sets_in ext) ≡ false → bad_field_sets ≡ read_gate key time member pairs ext
     read-refused p e = sym (read-parts ∙ next_pass early (field_sets_gate pairs ext) p ∙ sets-refused e)
 
@@ -83,10 +90,10 @@ module _ (key : SceneKey) (time : ℕ) (member : Membership) where
     read-passed p e = sym (read-parts ∙ next_pass early (field_sets_gate pairs ext) p ∙ sets-passed e)
 
     module _ (p : early ≡ success) where
-      pub read-unread : total_of (sets_in ext) ≡ Unreadable → bad_field_sets ≡ read_gate key time member pairs ext
+      pub read-unread : total_of (sets_in ext) ≡ None → bad_field_sets ≡ read_gate key time member pairs ext
       read-unread e = read-refused p (unread_holds (length pairs) (sets_in ext) e)
 
-      module _ (n : ℕ) (e : total_of (sets_in ext) ≡ Counted n) where
+      module _ (n : ℕ) (e : total_of (sets_in ext) ≡ Some n) where
         pub read_same : n ≡ length pairs → success ≡ read_gate key time member pairs ext
         read_same q = read-passed p (counted_holds (length pairs) (sets_in ext) n e ∙ eq-eqb n (length pairs) q)
 

@@ -2,34 +2,39 @@
 #![tactic(auto)]
 
 ghost use Rattle.std.specs.Prelude.{◌≡◌, true};
+ghost use Rattle.words.specs.Refusals.{status_of};
 ghost use Rattle.state.specs.Table.{table_of};
 ghost use Rattle.state.specs.Sound.{sound};
 ghost use Rattle.state.specs.Answer.{result_of};
 ghost use Rattle.add_read.specs.Adding.{read_gate, add_scene_read};
 
 use commands::Commands;
-use field_sets::{Total, count_pairs};
+use field_sets::count_pairs;
 use requests::Membership;
 use state::{Outcome, ScenesState};
-use words::{Fault, Limits, SceneKey, Status};
+use words::{Limits, Refusal, SceneKey};
 
 // The tests up to the one that the bytes are a list of sets with as many pairs as there are pair bytes. Those in front of it are an add's
 // with no pairs and no fields.
-fn read_gate(key: SceneKey, time: u32, member: Membership, pairs: &[u8], ext: &[u8]) -> u8
-    ensures { result ≡ read_gate key time member pairs.now ext.now }
+#[tactic(auto, using(crate::proofs::Laws::refused_early))]
+fn read_gate(
+    key: SceneKey,
+    time: u32,
+    member: Membership,
+    pairs: &[u8],
+    ext: &[u8],
+) -> Result<(), Refusal>
+    ensures { status_of result ≡ read_gate key time member pairs.now ext.now }
 {
     let limit = Limits::MAX_EXT_FIELDS_LEN;
-    let early = requests::add_gate(key, time, member, &pairs[..0], limit, 0);
-    if early != Status::SUCCESS {
-        return early;
-    }
-    let Total::Counted(n) = count_pairs(ext) else {
-        return Fault::BAD_FIELD_SETS;
+    requests::add_gate(key, time, member, &pairs[..0], limit, 0)?;
+    let Some(n) = count_pairs(ext) else {
+        return Err(Refusal::BadFieldSets);
     };
     if n == pairs.len() {
-        return Status::SUCCESS;
+        return Ok(());
     }
-    Fault::BAD_FIELD_SETS
+    Err(Refusal::BadFieldSets)
 }
 
 // The call on a table that is known to be sound: the tests up to 11, and then the add with the listed pairs.
@@ -50,9 +55,8 @@ pub fn add_read_sound(
         let after = table_of result.state keys.new times.new fields.new records.new in
         result_of result.status result.save after ≡ add_scene_read key time member pairs.now ext.now before }
 {
-    let gate = read_gate(key, time, member, pairs, ext);
-    if gate != Status::SUCCESS {
-        return Outcome::unsaved(gate, state);
+    if let Err(refusal) = read_gate(key, time, member, pairs, ext) {
+        return Outcome::refused_by(refusal, state);
     }
     Commands { state }.add_scene(keys, times, fields, records, key, time, member, pairs, ext)
 }
@@ -79,5 +83,5 @@ pub fn add_scene_read(
             state, keys, times, fields, records, key, time, member, pairs, ext,
         );
     }
-    Outcome::unsaved(Fault::UNSOUND, state)
+    Outcome::refused_by(Refusal::Unsound, state)
 }

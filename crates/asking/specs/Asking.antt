@@ -15,7 +15,7 @@ use Rattle.commands.specs.declared.Applied.{Applied}
 use Rattle.commands.specs.Commands.{add_scene, remove_scene, remove_all_scenes, recall_scene}
 use Rattle.commands.specs.Counted.{Counted, counted_of, store_counted}
 use Rattle.copies.specs.Copy.{source_group, target_group, copy_scene}
-use Rattle.reads.specs.declared.Transition.{Transition}
+use Rattle.reads.specs.Reads.{Transition}
 use Rattle.reads.specs.declared.SceneRead.{SceneRead}
 use Rattle.reads.specs.Reads.{unread, view_scene, recall_lookup, Listed, unlisted, get_scene_membership}
 use Rattle.lifecycle.specs.Lifecycle.{remove_for_fabric, factory_reset}

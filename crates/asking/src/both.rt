@@ -1,5 +1,6 @@
 // The calls that change scenes and memberships together: leaving a group, a fabric's removal and a factory reset.
 ghost use Rattle.std.specs.Prelude.{◌≡◌, false, ◌≤◌, length};
+ghost use Rattle.words.specs.Refusals.{number_of, status_of};
 ghost use Rattle.state.specs.Table.{table_of};
 ghost use Rattle.state.specs.Answer.{result_of};
 ghost use Rattle.groups.specs.Groups.{groups_of};
@@ -11,7 +12,7 @@ use groups::GroupsState;
 use requests::Membership;
 use scenes::ScenesHandler;
 use state::Outcome;
-use words::{Fault, GroupKey, KeyRange, Status};
+use words::{GroupKey, KeyRange, Refusal, Status};
 
 impl AskingHandler {
     // An answer, with the heads that it leaves.
@@ -28,28 +29,27 @@ impl AskingHandler {
     }
 
     // A refusal changes neither.
-    fn refused(self, status: u8) -> BothOutcome
-        ensures { result ≡ record { state = self.state; groups = self.groups; status = status; save = false } }
+    fn refused(self, refusal: Refusal) -> BothOutcome
+        ensures { result ≡ record { state = self.state; groups = self.groups; status = number_of refusal; save = false } }
     {
         let state = self.state;
-        AskingHandler::ended(Outcome::unsaved(status, state), self.groups)
+        AskingHandler::ended(Outcome::refused_by(refusal, state), self.groups)
     }
 
     // The tests of a leave on sound tables.
-    fn leave_gate(self, words: &[u64], key: GroupKey) -> u8
+    #[tactic(auto, using(requests::proofs::Laws::first_refusals), unfolding(crate::specs::Asking::leave_gate))]
+    fn leave_gate(self, words: &[u64], key: GroupKey) -> Result<(), Refusal>
         requires { self.groups.held ≤ length words.now }
-        ensures { result ≡ leave_gate key (groups_of self.groups words.now) }
+        ensures { status_of result ≡ leave_gate key (groups_of self.groups words.now) }
     {
-        if key.fabric == 0 {
-            return Fault::NO_FABRIC;
-        }
+        requests::fabric_gate(key.fabric)?;
         if key.group == 0 {
-            return Status::SC_CONSTRAINT_ERROR;
+            return Err(Refusal::ConstraintError);
         }
         if self.groups.is_member(words, key) {
-            return Status::SUCCESS;
+            return Ok(());
         }
-        Status::SC_NOT_FOUND
+        Err(Refusal::NotFound)
     }
 
     // Leaves a group: every match of the membership goes, and its scenes and records as by a remove all.
@@ -70,14 +70,13 @@ impl AskingHandler {
     {
         let state = self.state;
         if !self.groups.is_sound(words) {
-            return self.refused(Fault::UNSOUND);
+            return self.refused(Refusal::Unsound);
         }
         if !state.is_sound(keys, times, fields, records) {
-            return self.refused(Fault::UNSOUND);
+            return self.refused(Refusal::Unsound);
         }
-        let gate = self.leave_gate(words, key);
-        if gate != Status::SUCCESS {
-            return self.refused(gate);
+        if let Err(refusal) = self.leave_gate(words, key) {
+            return self.refused(refusal);
         }
         let done = Commands { state }.remove_all_scenes(
             keys,
@@ -108,7 +107,7 @@ impl AskingHandler {
     {
         let state = self.state;
         if !self.groups.is_sound(words) {
-            return self.refused(Fault::UNSOUND);
+            return self.refused(Refusal::Unsound);
         }
         let done = ScenesHandler { state }.remove_for_fabric(keys, times, fields, records, fabric);
         if done.status == Status::SUCCESS {
@@ -134,7 +133,7 @@ impl AskingHandler {
     {
         let state = self.state;
         if !self.groups.is_sound(words) {
-            return self.refused(Fault::UNSOUND);
+            return self.refused(Refusal::Unsound);
         }
         let done = ScenesHandler { state }.factory_reset(keys, times, fields, records);
         if done.status == Status::SUCCESS {

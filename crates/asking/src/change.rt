@@ -3,7 +3,6 @@ ghost use Rattle.std.specs.Prelude.{◌≡◌};
 ghost use Rattle.state.specs.Table.{table_of};
 ghost use Rattle.state.specs.Answer.{result_of};
 ghost use Rattle.commands.specs.Counted.{counted_of};
-ghost use Rattle.copies.specs.Copy.{source_group, target_group};
 ghost use Rattle.groups.specs.Groups.{groups_of};
 ghost use Rattle.asking.specs.Asking.{add_asking, add_read_asking, store_asking, remove_asking, remove_all_asking, recall_asking, copy_asking};
 
@@ -12,28 +11,7 @@ use commands::{Applied, Stored};
 use requests::CopyRequest;
 use scenes::ScenesHandler;
 use state::Outcome;
-use words::{Fault, GroupKey, SceneKey};
-
-// The groups of a copy.
-fn source_group(c: CopyRequest) -> GroupKey
-    ensures { result ≡ source_group c }
-{
-    GroupKey {
-        fabric: c.fabric,
-        endpoint: c.endpoint,
-        group: c.from.group,
-    }
-}
-
-fn target_group(c: CopyRequest) -> GroupKey
-    ensures { result ≡ target_group c }
-{
-    GroupKey {
-        fabric: c.fabric,
-        endpoint: c.endpoint,
-        group: c.to.group,
-    }
-}
+use words::{GroupKey, Refusal, SceneKey};
 
 impl AskingHandler {
     // Adds a scene, or gives it a new time and new fields.
@@ -61,7 +39,7 @@ impl AskingHandler {
                 keys, times, fields, records, key, time, member, pairs, ext,
             );
         }
-        Outcome::unsaved(Fault::UNSOUND, state)
+        Outcome::refused_by(Refusal::Unsound, state)
     }
 
     // The same by its raw field bytes, out of which the pairs are read.
@@ -89,7 +67,7 @@ impl AskingHandler {
                 state, keys, times, fields, records, key, time, member, pairs, ext,
             );
         }
-        Outcome::unsaved(Fault::UNSOUND, state)
+        Outcome::refused_by(Refusal::Unsound, state)
     }
 
     // Stores captured bytes as a scene, and remembers it as the fabric's current one.
@@ -115,7 +93,7 @@ impl AskingHandler {
                 keys, times, fields, records, key, member, captured,
             );
         }
-        Stored::refused(Fault::UNSOUND, state)
+        Stored::refused_by(Refusal::Unsound, state)
     }
 
     // Removes a scene.
@@ -138,7 +116,7 @@ impl AskingHandler {
             let member = self.groups.member(words, group_of_scene(key));
             return ScenesHandler { state }.remove_scene(keys, times, fields, records, key, member);
         }
-        Outcome::unsaved(Fault::UNSOUND, state)
+        Outcome::refused_by(Refusal::Unsound, state)
     }
 
     // Removes all scenes of a group on an endpoint.
@@ -163,7 +141,7 @@ impl AskingHandler {
                 keys, times, fields, records, key, member,
             );
         }
-        Outcome::unsaved(Fault::UNSOUND, state)
+        Outcome::refused_by(Refusal::Unsound, state)
     }
 
     // Ends a recall: a scene that the host applied is remembered.
@@ -189,7 +167,7 @@ impl AskingHandler {
                 keys, times, fields, records, key, member, applied,
             );
         }
-        Outcome::unsaved(Fault::UNSOUND, state)
+        Outcome::refused_by(Refusal::Unsound, state)
     }
 
     // Copies one scene, or all of a group.
@@ -209,12 +187,12 @@ impl AskingHandler {
     {
         let state = self.state;
         if self.groups.is_sound(words) {
-            let source = self.groups.member(words, source_group(c));
-            let target = self.groups.member(words, target_group(c));
+            let source = self.groups.member(words, copies::group_key(c, c.from));
+            let target = self.groups.member(words, copies::group_key(c, c.to));
             return ScenesHandler { state }.copy_scene(
                 keys, times, fields, records, c, source, target,
             );
         }
-        Outcome::unsaved(Fault::UNSOUND, state)
+        Outcome::refused_by(Refusal::Unsound, state)
     }
 }

@@ -6,9 +6,9 @@ ghost use Rattle.groups.specs.Groups.{groups_of};
 ghost use Rattle.asking.specs.Asking.{view_asking, lookup_asking, membership_asking};
 
 use crate::{AskingHandler, group_of_scene};
-use reads::{ListRead, SceneRead, Transition};
+use reads::{ListRead, SceneRead};
 use scenes::ScenesHandler;
-use words::{Fault, GroupKey, SceneKey};
+use words::{GroupKey, Refusal, SceneKey};
 
 impl AskingHandler {
     // A scene's time, and its position.
@@ -30,7 +30,7 @@ impl AskingHandler {
             let member = self.groups.member(words, group_of_scene(key));
             return ScenesHandler { state }.view_scene(keys, times, fields, records, key, member);
         }
-        SceneRead::refused(Fault::UNSOUND, state)
+        SceneRead::refused_by(Refusal::Unsound, state)
     }
 
     // What a recall applies.
@@ -42,7 +42,7 @@ impl AskingHandler {
         records: &[u64],
         words: &[u64],
         key: SceneKey,
-        transition: Transition,
+        transition: Option<u32>,
     ) -> SceneRead
         ensures { let table = table_of self.state keys.now times.now fields.now records.now in
             let groups = groups_of self.groups words.now in
@@ -55,7 +55,7 @@ impl AskingHandler {
                 keys, times, fields, records, key, member, transition,
             );
         }
-        SceneRead::refused(Fault::UNSOUND, state)
+        SceneRead::refused_by(Refusal::Unsound, state)
     }
 
     // A group's scene ids.
@@ -80,6 +80,6 @@ impl AskingHandler {
                 keys, times, fields, records, ids, key, member,
             );
         }
-        ListRead::refused(Fault::UNSOUND, state)
+        ListRead::refused_by(Refusal::Unsound, state)
     }
 }

@@ -9,8 +9,7 @@ use lib.Dec.{eqb}
 use borrow.Author.Tests.{eq-eqb, ne_eqb}
 use Rattle.words.specs.Constants.{success, unsound}
 use Rattle.words.specs.Words.{word_of}
-use Rattle.words.specs.declared.Found.{Found}
-use Rattle.words.specs.declared.Found.TheVariants.{At, Nothing}
+use Rattle.std.specs.Prelude.{Option, Some, None}
 use Rattle.words.specs.declared.SceneKey.{SceneKey}
 use Rattle.slots.specs.Slots.{Slots}
 use Rattle.state.specs.Table.{Table}
@@ -37,9 +36,9 @@ module _ (key : SceneKey) (t : Table) (r : Result) where
   counts-compared e = rw (eq-eqb r.status success e)
 
 -- what was compared is in the table
-pub compared-within : (key : SceneKey) (t : Table) (f : Found) → f ≡ find_scene key t → keys_compared f t.state.entries ≤ t.state.entries
-compared-within key t (At p) e = omega (arith, found_under t.slots.keys t.state.entries (word_of key) p (sym e))
-compared-within key t Nothing e = omega arith
+pub compared-within : (key : SceneKey) (t : Table) (f : Option ℕ) → f ≡ find_scene key t → keys_compared f t.state.entries ≤ t.state.entries
+compared-within key t (Some p) e = omega (arith, found_under t.slots.keys t.state.entries (word_of key) p (sym e))
+compared-within key t None e = omega arith
 
 -- ---- a store that passed its gate: x is what the code answered
 pub counts-passed : (key : SceneKey) (t : Table) (gate : ℕ) (x : Counted) (body : Result) → Admitted t gate

@@ -5,7 +5,7 @@ use mathlib.Core.Bool.{true, false}
 use mathlib.Core.List.{List}
 use borrow.Author.Tests.{eq-eqb, ne_eqb}
 use Rattle.words.specs.Constants.{success}
-use Rattle.words.specs.declared.Found.{Found}
+use Rattle.std.specs.Prelude.{Option}
 use Rattle.words.specs.declared.SceneKey.{SceneKey}
 use Rattle.words.specs.declared.GroupKey.{GroupKey}
 use Rattle.records.specs.declared.Scope.TheVariants.{Group}
@@ -18,7 +18,7 @@ use Rattle.commands.specs.Commands.{prior_time, stored, removed_all}
 -- ---- store
 
 -- u is what the upsert answered, with its mark; f is what the search found, from which the time comes
-pub upserted_prior : (key : SceneKey) (time : ℕ) (ext : List ℕ) (t : Table) (u : Result) (f : Found) (stored : List ℕ)
+pub upserted_prior : (key : SceneKey) (time : ℕ) (ext : List ℕ) (t : Table) (u : Result) (f : Option ℕ) (stored : List ℕ)
     → u ≡ saved (upsert key time ext t)
     → time ≡ prior_time f t.slots.times
     → f ≡ find_scene key t
@@ -26,7 +26,7 @@ pub upserted_prior : (key : SceneKey) (time : ℕ) (ext : List ℕ) (t : Table) 
     → upserted_of u.status u.table ≡ upsert key (prior_time (find_scene key t) t.slots.times) stored t
 upserted_prior key time ext t u f stored e e1 e2 e3 =
     (λ i. upserted_of (e i).status (e i).table)
-    ∙ (λ i. upsert key ((e1 ∙ ap (λ (x : Found). prior_time x t.slots.times) e2) i) (e3 i) t)
+    ∙ (λ i. upsert key ((e1 ∙ ap (λ (x : Option ℕ). prior_time x t.slots.times) e2) i) (e3 i) t)
 
 module _ (key : SceneKey) (u : Upserted) where
   pub not_stored : (u.status ≡ success → ⊥) → result_of u.status false u.table ≡ stored key u

@@ -1,9 +1,7 @@
 -- What add, store, remove, remove all and recall answer, and the table that they leave: document 01, "Commands".
-use Rattle.std.specs.Prelude.{ℕ, true, false, cond, List, [], ◌∷◌, ◌++◌, eqb, length, get_or}
+use Rattle.std.specs.Prelude.{ℕ, true, false, cond, List, [], ◌∷◌, ◌++◌, eqb, length, get_or, Option, Some, None}
 use Rattle.words.specs.Constants.{success, not_found, apply_failed, max_fields, end_of_container}
 use Rattle.words.specs.Words.{group_keys}
-use Rattle.words.specs.declared.Found.{Found}
-use Rattle.words.specs.declared.Found.TheVariants.{At, Nothing}
 use Rattle.words.specs.declared.SceneKey.{SceneKey}
 use Rattle.words.specs.declared.GroupKey.{GroupKey}
 use Rattle.records.specs.declared.Scope.TheVariants.{Scene, Group}
@@ -23,9 +21,9 @@ add_scene key time member pairs ext t =
 -- ---- store
 
 -- the prior entry's time, or 0
-abbrev pub prior_time : Found → List ℕ → ℕ
-prior_time (At p) times = get_or times p 0
-prior_time Nothing times = 0
+abbrev pub prior_time : Option ℕ → List ℕ → ℕ
+prior_time (Some p) times = get_or times p 0
+prior_time None times = 0
 
 -- a scene that was stored is remembered
 unfoldable pub stored : SceneKey → Upserted → Result
@@ -43,9 +41,9 @@ store_scene key member captured t =
 
 -- ---- remove
 
-unfoldable pub remove_found : Found → SceneKey → Table → Result
-remove_found (At p) key t = result_of success true (with_current (invalidate_current (Scene key)) (with_entries (swap_remove p) t))
-remove_found Nothing key t = refused t not_found
+unfoldable pub remove_found : Option ℕ → SceneKey → Table → Result
+remove_found (Some p) key t = result_of success true (with_current (invalidate_current (Scene key)) (with_entries (swap_remove p) t))
+remove_found None key t = refused t not_found
 
 unfoldable pub remove_scene : SceneKey → Membership → Table → Result
 remove_scene key member t = guarded (refused t) (refusal_of t (lookup_gate key member)) (remove_found (find_scene key t) key t)
@@ -65,10 +63,10 @@ remove_all_scenes key member t =
 
 -- ---- recall
 
-unfoldable pub recall_found : Found → SceneKey → Applied → Table → Result
-recall_found Nothing key applied t = refused t not_found
-recall_found (At p) key Failed t = refused t apply_failed
-recall_found (At p) key Yes t = result_of success true (with_current (remember_current key) t)
+unfoldable pub recall_found : Option ℕ → SceneKey → Applied → Table → Result
+recall_found None key applied t = refused t not_found
+recall_found (Some p) key Failed t = refused t apply_failed
+recall_found (Some p) key Yes t = result_of success true (with_current (remember_current key) t)
 
 unfoldable pub recall_scene : SceneKey → Membership → Applied → Table → Result
 recall_scene key member applied t =

@@ -1,9 +1,7 @@
 -- What a store tells the host beside its answer: how many key words it held against the wanted one. Document 02, Q-6. It is no part of a
 -- member's answer, which is `store_scene`'s.
-use Rattle.std.specs.Prelude.{ℕ, ◌+◌, ◌≤◌, ◌≡◌, cond, List, eqb}
+use Rattle.std.specs.Prelude.{ℕ, ◌+◌, ◌≤◌, ◌≡◌, cond, List, eqb, Option, Some, None}
 use Rattle.words.specs.Constants.{success}
-use Rattle.words.specs.declared.Found.{Found}
-use Rattle.words.specs.declared.Found.TheVariants.{At, Nothing}
 use Rattle.words.specs.declared.SceneKey.{SceneKey}
 use Rattle.requests.specs.declared.Membership.{Membership}
 use Rattle.state.specs.Table.{Table}
@@ -12,9 +10,9 @@ use Rattle.state.specs.Answer.{Result}
 use Rattle.commands.specs.Commands.{store_scene}
 
 -- what was held against the wanted key word, of n: up to the first match, or all
-abbrev pub keys_compared : Found → ℕ → ℕ
-keys_compared (At p) n = p + 1
-keys_compared Nothing n = n
+abbrev pub keys_compared : Option ℕ → ℕ → ℕ
+keys_compared (Some p) n = p + 1
+keys_compared None n = n
 
 -- a store's answer, with the count
 pub record Counted : Type 0 where
@@ -38,8 +36,8 @@ pub record StoreCounts : Type 0 where
   pub refused : (key : SceneKey) (m : Membership) (captured : List ℕ) (t : Table) → ((store_scene key m captured t).status ≡ success → ⊥)
       → (store_counted key m captured t).compared ≡ 0
   pub known : (key : SceneKey) (m : Membership) (captured : List ℕ) (t : Table) (p : ℕ) → (store_scene key m captured t).status ≡ success
-      → find_scene key t ≡ At p → (store_counted key m captured t).compared ≡ p + 1
+      → find_scene key t ≡ Some p → (store_counted key m captured t).compared ≡ p + 1
   pub new : (key : SceneKey) (m : Membership) (captured : List ℕ) (t : Table) → (store_scene key m captured t).status ≡ success
-      → find_scene key t ≡ Nothing → (store_counted key m captured t).compared ≡ t.state.entries
+      → find_scene key t ≡ None → (store_counted key m captured t).compared ≡ t.state.entries
   -- no key word is counted twice
   pub once : (key : SceneKey) (m : Membership) (captured : List ℕ) (t : Table) → (store_counted key m captured t).compared ≤ t.state.entries

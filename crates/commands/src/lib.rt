@@ -4,6 +4,7 @@
 
 ghost use Rattle.std.specs.Prelude.{◌≡◌, true, false, [], ◌∷◌, ◌++◌, ◌+◌, ◌<◌, ◌≤◌, length, take};
 ghost use Rattle.words.specs.Constants.{end_of_container, max_fields};
+ghost use Rattle.words.specs.Refusals.{number_of};
 ghost use Rattle.words.specs.Words.{word_of};
 ghost use Rattle.slots.specs.Slots.{first_key};
 ghost use Rattle.state.specs.Table.{table_of, Room};
@@ -15,7 +16,7 @@ ghost use Rattle.commands.specs.Counted.{keys_compared, counted_of, counted, sto
 use records::Scope;
 use requests::Membership;
 use state::{Outcome, ScenesState};
-use words::{Fault, Found, GroupKey, KeyRange, Limits, SceneKey, Slot, Status};
+use words::{GroupKey, KeyRange, Limits, Refusal, SceneKey, Slot, Status};
 
 // The head of a table that is known to be sound.
 #[derive(Clone, Copy)]
@@ -52,24 +53,31 @@ impl Stored {
             state,
         }
     }
+
+    // The same, by the refusal itself.
+    pub fn refused_by(refusal: Refusal, state: ScenesState) -> Stored
+        ensures { result ≡ record { status = number_of refusal; save = false; state = state; compared = 0 } }
+    {
+        Stored::refused(u8::from(refusal), state)
+    }
 }
 
 // How many of n key words were held against the wanted one: up to the first match, or all.
-fn keys_compared(found: Found, n: usize) -> usize
+fn keys_compared(found: Option<usize>, n: usize) -> usize
     requires { keys_compared found n ≤ n }
     ensures { result ≡ keys_compared found n }
 {
     match found {
-        Found::At(at) => at + 1,
-        Found::Nothing => n,
+        Some(at) => at + 1,
+        None => n,
     }
 }
 
 // The time of the entry that was found, or 0.
-fn prior_time(found: Found, times: &[u32]) -> u32
+fn prior_time(found: Option<usize>, times: &[u32]) -> u32
     ensures { result ≡ prior_time found times.now }
 {
-    let Found::At(at) = found else {
+    let Some(at) = found else {
         return 0;
     };
     if at < times.len() {
@@ -84,11 +92,7 @@ fn end_capture(scratch: &mut [u8], captured: &[u8]) -> usize
     ensures { (result ≡ length captured.now + 1) × (take result scratch.new ≡ captured.now ++ (end_of_container ∷ [])) }
 {
     let len = captured.len();
-    let mut i = 0;
-    while i < len {
-        scratch[i] = captured[i];
-        i += 1;
-    }
+    scratch[..len].copy_from_slice(captured);
     scratch[len] = Slot::END_OF_CONTAINER;
     len + 1
 }
@@ -113,16 +117,9 @@ impl Commands {
             result_of result.status result.save after ≡ add_scene key time member pairs.now ext.now before }
     {
         let state = self.state;
-        let gate = requests::add_gate(
-            key,
-            time,
-            member,
-            pairs,
-            Limits::MAX_EXT_FIELDS_LEN,
-            ext.len(),
-        );
-        if gate != Status::SUCCESS {
-            return Outcome::unsaved(gate, state);
+        let limit = Limits::MAX_EXT_FIELDS_LEN;
+        if let Err(refusal) = requests::add_gate(key, time, member, pairs, limit, ext.len()) {
+            return Outcome::refused_by(refusal, state);
         }
         let n = state.entries;
         let found = slots::find(keys, n, key.word());
@@ -158,7 +155,7 @@ impl Commands {
         times: &mut [u32],
         fields: &mut [u8],
         records: &mut [u64],
-        found: Found,
+        found: Option<usize>,
         key: SceneKey,
         member: Membership,
         captured: &[u8],
@@ -170,9 +167,9 @@ impl Commands {
             counted_of (result_of result.status result.save after) result.compared ≡ store_counted key member captured.now before }
     {
         let state = self.state;
-        let gate = requests::store_gate(key, member, Limits::MAX_EXT_FIELDS_LEN, captured.len());
-        if gate != Status::SUCCESS {
-            return Stored::refused(gate, state);
+        let limit = Limits::MAX_EXT_FIELDS_LEN;
+        if let Err(refusal) = requests::store_gate(key, member, limit, captured.len()) {
+            return Stored::refused_by(refusal, state);
         }
         self.store_captured(keys, times, fields, records, found, key, captured)
     }
@@ -184,7 +181,7 @@ impl Commands {
         times: &mut [u32],
         fields: &mut [u8],
         records: &mut [u64],
-        found: Found,
+        found: Option<usize>,
         key: SceneKey,
         captured: &[u8],
     ) -> Stored
@@ -240,20 +237,15 @@ impl Commands {
             result_of result.status result.save after ≡ remove_scene key member before }
     {
         let state = self.state;
-        let gate = requests::lookup_gate(key, member);
-        if gate != Status::SUCCESS {
-            return Outcome::unsaved(gate, state);
+        if let Err(refusal) = requests::lookup_gate(key, member) {
+            return Outcome::refused_by(refusal, state);
         }
         let n = state.entries;
-        let Found::At(at) = slots::find(keys, n, key.word()) else {
-            return Outcome::unsaved(Status::SC_NOT_FOUND, state);
+        let Some(at) = slots::find(keys, n, key.word()) else {
+            return Outcome::refused_by(Refusal::NotFound, state);
         };
         let shorter = state.swap_remove(keys, times, fields, at);
-        Outcome {
-            status: Status::SUCCESS,
-            save: true,
-            state: shorter.invalidate_current(records, Scope::Scene(key)),
-        }
+        Outcome::saved(shorter.invalidate_current(records, Scope::Scene(key)))
     }
 
     // Removes all scenes of a group on an endpoint.
@@ -272,20 +264,15 @@ impl Commands {
             result_of result.status result.save after ≡ remove_all_scenes key member before }
     {
         let state = self.state;
-        let gate = requests::group_gate(key, member);
-        if gate != Status::SUCCESS {
-            return Outcome::unsaved(gate, state);
+        if let Err(refusal) = requests::group_gate(key, member) {
+            return Outcome::refused_by(refusal, state);
         }
         let before = state.entries;
         let left = state.retain(keys, times, fields, KeyRange::Group(key));
         if left.entries == before {
             return Outcome::unsaved(Status::SUCCESS, left);
         }
-        Outcome {
-            status: Status::SUCCESS,
-            save: true,
-            state: left.invalidate_current(records, Scope::Group(key)),
-        }
+        Outcome::saved(left.invalidate_current(records, Scope::Group(key)))
     }
 
     // Ends a recall: a scene that the host has applied becomes the fabric's current one.
@@ -305,21 +292,16 @@ impl Commands {
             result_of result.status result.save after ≡ recall_scene key member applied before }
     {
         let state = self.state;
-        let gate = requests::lookup_gate(key, member);
-        if gate != Status::SUCCESS {
-            return Outcome::unsaved(gate, state);
+        if let Err(refusal) = requests::lookup_gate(key, member) {
+            return Outcome::refused_by(refusal, state);
         }
         let n = state.entries;
-        let Found::At(_) = slots::find(keys, n, key.word()) else {
-            return Outcome::unsaved(Status::SC_NOT_FOUND, state);
+        let Some(_) = slots::find(keys, n, key.word()) else {
+            return Outcome::refused_by(Refusal::NotFound, state);
         };
         match applied {
-            Applied::Yes => Outcome {
-                status: Status::SUCCESS,
-                save: true,
-                state: state.remember_current(records, key),
-            },
-            Applied::Failed => Outcome::unsaved(Fault::APPLY_FAILED, state),
+            Applied::Yes => Outcome::saved(state.remember_current(records, key)),
+            Applied::Failed => Outcome::refused_by(Refusal::ApplyFailed, state),
         }
     }
 }

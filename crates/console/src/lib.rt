@@ -1,13 +1,13 @@
 // Runs a script from standard input and writes its answers to standard output: scenebench and scenetrace are a call of it each.
 #![tactic(auto)]
 
-ghost use Rattle.std.specs.Prelude.{◌+◌, ◌≤◌, length};
+ghost use Rattle.std.specs.Prelude.{◌+◌, ◌≤◌, IfOk, length};
 ghost use Rattle.words.specs.Constants.{max_scenes, max_memberships};
 ghost use Rattle.script_lines.specs.Lines.{most_image};
 ghost use Rattle.console.specs.Whole.{longest, line_room, most_held, held_answer, Whole};
 
 use script_machine::{Machine, Ran};
-use std::io::{Input, Print, Read};
+use std::io::{self, Input, Print, Read};
 
 // A line has fewer bytes than this: the longest image takes 350,224 digits, and longer ones are to be refused by the table.
 const LINE: usize = 0x6_0000;
@@ -35,12 +35,11 @@ struct Stepped {
     open: bool,
 }
 
-// How many bytes were read, whether they are the last, and whether the input cannot be read on.
+// How many bytes were read, and whether they are the last.
 #[derive(Clone, Copy)]
 struct Part {
     n: usize,
     last: bool,
-    failed: bool,
 }
 
 // Writes out what the buffer holds up to a position.
@@ -185,32 +184,21 @@ fn feed(
 
 // Reads a chunk. At the end of the input stands the end that a last line lacks. No signal is handled here, so that no read is
 // interrupted: one that fails is the last.
-fn read_part(input: &mut impl Read, chunk: &mut [u8], held: usize) -> Part
-    ensures { result.n ≤ length chunk.new }
+fn read_part(input: &mut impl Read, chunk: &mut [u8], held: usize) -> io::Result<Part>
+    ensures { IfOk result (λ part. part.n ≤ length chunk.new) }
 {
-    let got = input.read(chunk);
-    if let Ok(n) = got
-        && 0 < n
-    {
-        return Part {
-            n,
-            last: false,
-            failed: false,
-        };
+    let n = input.read(chunk)?;
+    if 0 < n {
+        return Ok(Part { n, last: false });
     }
-    if got.is_err() | (held == 0) {
-        return Part {
-            n: 0,
-            last: true,
-            failed: got.is_err(),
-        };
+    if held == 0 {
+        return Ok(Part { n: 0, last: true });
     }
     text_output::put(chunk, 0, b'\n');
-    Part {
+    Ok(Part {
         n: chunk.len().min(1),
         last: true,
-        failed: false,
-    }
+    })
 }
 
 // Tells that the input cannot be read on. A line that was gathered in part is not run: nobody knows its rest.
@@ -244,25 +232,21 @@ fn run(
     let mut input = rt.reader();
     let mut m = machine;
     let mut held = 0;
-    let mut more = true;
-    let mut failed = false;
-    // Nothing says that the input ends: the turns are counted down, from a number that no run uses up.
-    let mut turns = u64::MAX;
-    while (0 < turns) & more {
-        let got = read_part(&mut input, chunk, held);
-        let n = got.n;
-        let part = &chunk[..n];
+    // An input need not end: the turns are counted, and no run uses so many up.
+    for _ in 0..u64::MAX {
+        let Ok(got) = read_part(&mut input, chunk, held) else {
+            tell_failed(rt, m, room);
+            return;
+        };
+        let part = &chunk[..got.n];
         let fed = feed(
             rt, m, keys, times, fields, records, words, buffer, line, held, part, room,
         );
+        if got.last | !fed.open {
+            return;
+        }
         m = fed.machine;
         held = fed.held;
-        more = fed.open & !got.last;
-        failed = got.failed;
-        turns -= 1;
-    }
-    if failed {
-        tell_failed(rt, m, room);
     }
 }
 

@@ -10,8 +10,7 @@ use lib.ListN.{length, get_or}
 use borrow.Author.Tests.{eqb-true, eqb-false, eq-eqb, ne_eqb}
 use Rattle.words.specs.Constants.{stride, max_fields, success, not_found, insufficient_space}
 use Rattle.words.specs.Words.{word_of}
-use Rattle.words.specs.declared.Found.{Found}
-use Rattle.words.specs.declared.Found.TheVariants.{At, Nothing}
+use Rattle.std.specs.Prelude.{Option, Some, None}
 use Rattle.words.specs.declared.SceneKey.{SceneKey}
 use Rattle.words.specs.declared.GroupKey.{GroupKey}
 use Rattle.words.proofs.Tests.{all_head, all_tail}
@@ -79,12 +78,12 @@ module _ {e : Entries} (r : EntryRoom e) (p key time : ℕ) (ext : List ℕ) (h 
 -- ---- the copy of an entry
 
 -- f is what a search for the key's word w found
-sought : (e : Entries) (key : SceneKey) {w : ℕ} {f g : Found} → w ≡ word_of key → f ≡ first_key e.slots.keys e.state.entries w → f ≡ g → first_key e.slots.keys e.state.entries (word_of key) ≡ g
+sought : (e : Entries) (key : SceneKey) {w : ℕ} {f g : Option ℕ} → w ≡ word_of key → f ≡ first_key e.slots.keys e.state.entries w → f ≡ g → first_key e.slots.keys e.state.entries (word_of key) ≡ g
 sought e key x y z = ap (first_key e.slots.keys e.state.entries) (sym x) ∙ sym y ∙ z
 
-module _ (i : ℕ) (key : SceneKey) (e : Entries) {w : ℕ} (x : w ≡ word_of key) {f : Found} (y : f ≡ first_key e.slots.keys e.state.entries w) where
+module _ (i : ℕ) (key : SceneKey) (e : Entries) {w : ℕ} (x : w ≡ word_of key) {f : Option ℕ} (y : f ≡ first_key e.slots.keys e.state.entries w) where
   -- over the entry that has the key
-  pub copy-known : {p : ℕ} {s : Slots} → f ≡ At p → s ≡ put_slot p w (get_or e.slots.times i 0) (fields_at e.slots.fields i) e.slots
+  pub copy-known : {p : ℕ} {s : Slots} → f ≡ Some p → s ≡ put_slot p w (get_or e.slots.times i 0) (fields_at e.slots.fields i) e.slots
       → copied_of success (record { state = e.state; slots = s }) ≡ copy_entry i key e
   unfolding copy_entry copy_to put_at
   copy-known {p} {s} z q =
@@ -92,7 +91,7 @@ module _ (i : ℕ) (key : SceneKey) (e : Entries) {w : ℕ} (x : w ≡ word_of k
       rw (sought e key x y z) (λ d. copied_of success (record { state = e.state; slots = r d }))
 
   -- behind the last one
-  pub copy-new : {s : Slots} → f ≡ Nothing → (room_for e.state e.slots.keys key.fabric ≡ 0 → ⊥)
+  pub copy-new : {s : Slots} → f ≡ None → (room_for e.state e.slots.keys key.fabric ≡ 0 → ⊥)
       → s ≡ put_slot e.state.entries w (get_or e.slots.times i 0) (fields_at e.slots.fields i) e.slots
       → copied_of success (record { state = with_entry_count (e.state.entries + 1) e.state; slots = s }) ≡ copy_entry i key e
   unfolding copy_entry copy_to append
@@ -100,7 +99,7 @@ module _ (i : ℕ) (key : SceneKey) (e : Entries) {w : ℕ} (x : w ≡ word_of k
       let r : s ≡ put_slot e.state.entries (word_of key) (get_or e.slots.times i 0) (fields_at e.slots.fields i) e.slots = rw (← x) q in
       rw (sought e key x y z, ne_eqb _ _ h) (λ d. copied_of success (record { state = with_entry_count (e.state.entries + 1) e.state; slots = r d }))
 
-  pub copy_full : f ≡ Nothing → room_for e.state e.slots.keys key.fabric ≡ 0 → copied_of insufficient_space e ≡ copy_entry i key e
+  pub copy_full : f ≡ None → room_for e.state e.slots.keys key.fabric ≡ 0 → copied_of insufficient_space e ≡ copy_entry i key e
   unfolding copy_entry copy_to
   copy_full z h = rw (sought e key x y z, eq-eqb _ _ h)
 
@@ -139,10 +138,10 @@ module _ (i : ℕ) (key : SceneKey) (e : Entries) (r : EntryRoom e) (h : i < e.s
     head = refl;
   }
 
-  to_kept : (f : Found) → first_key e.slots.keys e.state.entries (word_of key) ≡ f → Kept e (copy_to f i key e).entries
+  to_kept : (f : Option ℕ) → first_key e.slots.keys e.state.entries (word_of key) ≡ f → Kept e (copy_to f i key e).entries
   unfolding copy_to
-  to_kept (At p) q = put-kept p (found_under e.slots.keys e.state.entries (word_of key) p q)
-  to_kept Nothing q =
+  to_kept (Some p) q = put-kept p (found_under e.slots.keys e.state.entries (word_of key) p q)
+  to_kept None q =
       let room = room_for e.state e.slots.keys key.fabric in
       (elim (eqb room 0) as (λ b. eqb room 0 ≡ b
       → Kept e (cond b (copied_of insufficient_space e) (copied_of success (append key (get_or e.slots.times i 0) (fields_at e.slots.fields i) e))).entries) [
@@ -154,10 +153,10 @@ module _ (i : ℕ) (key : SceneKey) (e : Entries) (r : EntryRoom e) (h : i < e.s
   unfolding copy_entry
   copy-kept = to_kept (first_key e.slots.keys e.state.entries (word_of key)) refl
 
-found-kept : (from to : SceneKey) (e : Entries) → EntryRoom e → (f : Found) → first_key e.slots.keys e.state.entries (word_of from) ≡ f → Kept e (copy_found f to e).entries
+found-kept : (from to : SceneKey) (e : Entries) → EntryRoom e → (f : Option ℕ) → first_key e.slots.keys e.state.entries (word_of from) ≡ f → Kept e (copy_found f to e).entries
 unfolding copy_found
-found-kept from to e r (At i) q = copy-kept i to e r (found_under e.slots.keys e.state.entries (word_of from) i q)
-found-kept from to e r Nothing q = kept_none r
+found-kept from to e r (Some i) q = copy-kept i to e r (found_under e.slots.keys e.state.entries (word_of from) i q)
+found-kept from to e r None q = kept_none r
 
 pub single_kept : (from to : SceneKey) (e : Entries) → EntryRoom e → Kept e (copy_single from to e).entries
 unfolding copy_single
@@ -188,12 +187,12 @@ sources_kept c e r =
 
 -- ---- one scene
 
-module _ (from to : SceneKey) (e : Entries) {w : ℕ} (x : w ≡ word_of from) {f : Found} (y : f ≡ first_key e.slots.keys e.state.entries w) where
-  pub single_found : {i : ℕ} {o : Copied} → f ≡ At i → o ≡ copy_entry i to e → o ≡ copy_single from to e
+module _ (from to : SceneKey) (e : Entries) {w : ℕ} (x : w ≡ word_of from) {f : Option ℕ} (y : f ≡ first_key e.slots.keys e.state.entries w) where
+  pub single_found : {i : ℕ} {o : Copied} → f ≡ Some i → o ≡ copy_entry i to e → o ≡ copy_single from to e
   unfolding copy_single copy_found
   single_found z q = rw (sought e from x y z) q
 
-  pub single_missing : f ≡ Nothing → copied_of not_found e ≡ copy_single from to e
+  pub single_missing : f ≡ None → copied_of not_found e ≡ copy_single from to e
   unfolding copy_single copy_found
   single_missing z = rw (sought e from x y z)
 

@@ -1,9 +1,7 @@
 -- What a copy answers and leaves, of one scene or of a whole group: document 01, "Commands", Copy.
-use Rattle.std.specs.Prelude.{ℕ, zero, suc, Bool, true, false, cond, eqb, get_or}
+use Rattle.std.specs.Prelude.{ℕ, zero, suc, Bool, true, false, cond, eqb, get_or, Option, Some, None}
 use Rattle.words.specs.Constants.{success, not_found, insufficient_space}
 use Rattle.words.specs.Words.{word_of, scene_of, within, group_keys}
-use Rattle.words.specs.declared.Found.{Found}
-use Rattle.words.specs.declared.Found.TheVariants.{At, Nothing}
 use Rattle.words.specs.declared.SceneKey.{SceneKey}
 use Rattle.words.specs.declared.GroupKey.{GroupKey}
 use Rattle.slots.specs.Slots.{first_key, fields_at}
@@ -27,9 +25,9 @@ abbrev pub copied_of : ℕ → Entries → Copied
 copied_of n e = record { status = n; entries = e }
 
 -- the entry at i written to where its target key was found; else behind the last entry, while the fabric has something remaining
-unfoldable pub copy_to : Found → ℕ → SceneKey → Entries → Copied
-copy_to (At p) i key e = copied_of success (put_at p key (get_or e.slots.times i 0) (fields_at e.slots.fields i) e)
-copy_to Nothing i key e =
+unfoldable pub copy_to : Option ℕ → ℕ → SceneKey → Entries → Copied
+copy_to (Some p) i key e = copied_of success (put_at p key (get_or e.slots.times i 0) (fields_at e.slots.fields i) e)
+copy_to None i key e =
     cond (eqb (room_for e.state e.slots.keys key.fabric) 0) (copied_of insufficient_space e)
     (copied_of success (append key (get_or e.slots.times i 0) (fields_at e.slots.fields i) e))
 
@@ -44,9 +42,9 @@ source_key c = record { fabric = c.fabric; endpoint = c.endpoint; group = c.from
 abbrev pub target_key : CopyRequest → SceneKey
 target_key c = record { fabric = c.fabric; endpoint = c.endpoint; group = c.to.group; scene = c.to.scene }
 
-unfoldable pub copy_found : Found → SceneKey → Entries → Copied
-copy_found (At i) key e = copy_entry i key e
-copy_found Nothing key e = copied_of not_found e
+unfoldable pub copy_found : Option ℕ → SceneKey → Entries → Copied
+copy_found (Some i) key e = copy_entry i key e
+copy_found None key e = copied_of not_found e
 
 -- the first entry with the source's key
 unfoldable pub copy_single : SceneKey → SceneKey → Entries → Copied

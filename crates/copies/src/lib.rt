@@ -4,15 +4,16 @@
 
 ghost use Rattle.std.specs.Prelude.{◌≡◌, true, ◌<◌};
 ghost use Rattle.words.specs.Constants.{not_found};
+ghost use Rattle.words.specs.Refusals.{status_of};
 ghost use Rattle.state.specs.Table.{table_of, entries_of, EntryRoom, CopyRoom};
 ghost use Rattle.state.specs.Sound.{sound};
 ghost use Rattle.state.specs.Answer.{result_of};
 ghost use Rattle.copies.specs.Copy.{copied_of, copy_entry, copy_walk, source_key, target_key, source_group, target_group, copy_single, copy_sources, target_scope, copy_scenes_inner, copy_scene};
 
 use records::Scope;
-use requests::{CopyRequest, Membership};
+use requests::{CopyRequest, GroupScene, Membership};
 use state::{Outcome, ScenesState};
-use words::{Found, GroupKey, KeyRange, SceneKey, Status};
+use words::{GroupKey, KeyRange, Refusal, SceneKey};
 
 // The head of a table that is known to be sound.
 #[derive(Clone, Copy)]
@@ -20,11 +21,11 @@ pub struct Copies {
     pub state: ScenesState,
 }
 
-// What a copy of entries answers, with the head.
+// What a copy of entries answers, with the head: what was copied before a refusal stays.
 #[derive(Clone, Copy)]
 struct Copied {
     pub state: ScenesState,
-    pub status: u8,
+    pub answer: Result<(), Refusal>,
 }
 
 impl Copies {
@@ -41,28 +42,28 @@ impl Copies {
         requires at_lt_entries { at < self.state.entries }
         ensures { let before = entries_of self.state keys.old times.old fields.old in
             let after = entries_of result.state keys.new times.new fields.new in
-            copied_of result.status after ≡ copy_entry at key before }
+            copied_of (status_of result.answer) after ≡ copy_entry at key before }
     {
         let mut state = self.state;
         let n = state.entries;
         let word = key.word();
-        let Found::At(to) = slots::find(keys, n, word) else {
+        let Some(to) = slots::find(keys, n, word) else {
             if state.room_for_fab(keys, key.fabric) == 0 {
                 return Copied {
-                    status: Status::SC_INSUFFICIENT_SPACE,
+                    answer: Err(Refusal::InsufficientSpace),
                     state,
                 };
             }
             slot_writes::put_copy(keys, times, fields, at, n, word);
             state.entries = n + 1;
             return Copied {
-                status: Status::SUCCESS,
+                answer: Ok(()),
                 state,
             };
         };
         slot_writes::put_copy(keys, times, fields, at, to, word);
         Copied {
-            status: Status::SUCCESS,
+            answer: Ok(()),
             state,
         }
     }
@@ -79,34 +80,31 @@ impl Copies {
         requires { EntryRoom (entries_of self.state keys.old times.old fields.old) }
         ensures { let before = entries_of self.state keys.old times.old fields.old in
             let after = entries_of result.state keys.new times.new fields.new in
-            copied_of result.status after ≡ copy_walk from to self.state.entries 0 not_found before }
+            copied_of (status_of result.answer) after ≡ copy_walk from to self.state.entries 0 not_found before }
     {
         let mut state = self.state;
         let n = state.entries;
         let range = KeyRange::Group(from);
-        let mut status = Status::SC_NOT_FOUND;
-        let mut i = 0;
-        while i < n {
+        let mut answer = Err(Refusal::NotFound);
+        for i in 0..n {
             let word = keys[i];
-            if range.holds(word) {
-                let key = SceneKey {
-                    fabric: to.fabric,
-                    endpoint: to.endpoint,
-                    group: to.group,
-                    scene: words::scene_of(word),
-                };
-                let done = Copies { state }.copy_entry(keys, times, fields, i, key);
-                status = done.status;
-                state = done.state;
-                if status != Status::SUCCESS {
-                    return Copied { status, state };
-                }
-                i += 1;
-            } else {
-                i += 1;
+            if !range.holds(word) {
+                continue;
+            }
+            let key = SceneKey {
+                fabric: to.fabric,
+                endpoint: to.endpoint,
+                group: to.group,
+                scene: words::scene_of(word),
+            };
+            let done = Copies { state }.copy_entry(keys, times, fields, i, key);
+            answer = done.answer;
+            state = done.state;
+            if answer.is_err() {
+                return Copied { answer, state };
             }
         }
-        Copied { status, state }
+        Copied { answer, state }
     }
 
     // Copies one scene, the first that has the source's key.
@@ -121,13 +119,13 @@ impl Copies {
         requires { EntryRoom (entries_of self.state keys.old times.old fields.old) }
         ensures { let before = entries_of self.state keys.old times.old fields.old in
             let after = entries_of result.state keys.new times.new fields.new in
-            copied_of result.status after ≡ copy_single from to before }
+            copied_of (status_of result.answer) after ≡ copy_single from to before }
     {
         let state = self.state;
         let n = state.entries;
-        let Found::At(at) = slots::find(keys, n, from.word()) else {
+        let Some(at) = slots::find(keys, n, from.word()) else {
             return Copied {
-                status: Status::SC_NOT_FOUND,
+                answer: Err(Refusal::NotFound),
                 state,
             };
         };
@@ -145,12 +143,24 @@ impl Copies {
         requires { EntryRoom (entries_of self.state keys.old times.old fields.old) }
         ensures { let before = entries_of self.state keys.old times.old fields.old in
             let after = entries_of result.state keys.new times.new fields.new in
-            copied_of result.status after ≡ copy_sources c before }
+            copied_of (status_of result.answer) after ≡ copy_sources c before }
     {
         if requests::is_whole_group(c.mode) {
-            return self.copy_group(keys, times, fields, source_group(c), target_group(c));
+            return self.copy_group(
+                keys,
+                times,
+                fields,
+                group_key(c, c.from),
+                group_key(c, c.to),
+            );
         }
-        self.copy_single(keys, times, fields, source_key(c), target_key(c))
+        self.copy_single(
+            keys,
+            times,
+            fields,
+            scene_key(c, c.from),
+            scene_key(c, c.to),
+        )
     }
 
     // The records that a copy invalidates, and the copy itself, once the request is admitted.
@@ -169,19 +179,14 @@ impl Copies {
     {
         let before = self.state;
         if before.room_for_fab(keys, c.fabric) == 0 {
-            return Outcome::unsaved(Status::SC_INSUFFICIENT_SPACE, before);
+            return Outcome::refused_by(Refusal::InsufficientSpace, before);
         }
         let done = self.copy_sources(keys, times, fields, c);
-        let status = done.status;
         let state = done.state;
-        if status != Status::SUCCESS {
-            return Outcome::unsaved(status, state);
+        if let Err(refusal) = done.answer {
+            return Outcome::refused_by(refusal, state);
         }
-        Outcome {
-            status: Status::SUCCESS,
-            save: true,
-            state: state.invalidate_current(records, target_scope(c)),
-        }
+        Outcome::saved(state.invalidate_current(records, target_scope(c)))
     }
 
     // Copies a scene, or with bit 0 of the mode a whole group.
@@ -201,58 +206,38 @@ impl Copies {
             result_of result.status result.save after ≡ copy_scene request source target before }
     {
         let state = self.state;
-        let gate = requests::copy_gate(request, source, target);
-        if gate != Status::SUCCESS {
-            return Outcome::unsaved(gate, state);
+        if let Err(refusal) = requests::copy_gate(request, source, target) {
+            return Outcome::refused_by(refusal, state);
         }
         self.copy_scenes_inner(keys, times, fields, records, request)
     }
 }
 
-// The scene that a copy names as its source.
-fn source_key(c: CopyRequest) -> SceneKey
-    ensures { result ≡ source_key c }
+// A group that a copy names, as its source or as its target.
+pub fn group_key(c: CopyRequest, named: GroupScene) -> GroupKey
+    ensures { result ≡ record { fabric = c.fabric; endpoint = c.endpoint; group = named.group } }
 {
-    let from = c.from;
-    SceneKey {
-        fabric: c.fabric,
-        endpoint: c.endpoint,
-        group: from.group,
-        scene: from.scene,
-    }
-}
-
-fn target_key(c: CopyRequest) -> SceneKey
-    ensures { result ≡ target_key c }
-{
-    let to = c.to;
-    SceneKey {
-        fabric: c.fabric,
-        endpoint: c.endpoint,
-        group: to.group,
-        scene: to.scene,
-    }
-}
-
-fn source_group(c: CopyRequest) -> GroupKey
-    ensures { result ≡ source_group c }
-{
-    let from = c.from;
     GroupKey {
         fabric: c.fabric,
         endpoint: c.endpoint,
-        group: from.group,
+        group: named.group,
     }
 }
 
-fn target_group(c: CopyRequest) -> GroupKey
-    ensures { result ≡ target_group c }
+// A scene that a copy names, likewise.
+fn scene_key(c: CopyRequest, named: GroupScene) -> SceneKey
+    ensures { result ≡ record { fabric = c.fabric; endpoint = c.endpoint; group = named.group; scene = named.scene } }
 {
-    let to = c.to;
-    GroupKey {
-        fabric: c.fabric,
-        endpoint: c.endpoint,
-        group: to.group,
+    let GroupKey {
+        fabric,
+        endpoint,
+        group,
+    } = group_key(c, named);
+    SceneKey {
+        fabric,
+        endpoint,
+        group,
+        scene: named.scene,
     }
 }
 
@@ -261,7 +246,7 @@ fn target_scope(c: CopyRequest) -> Scope
     ensures { result ≡ target_scope c }
 {
     if requests::is_whole_group(c.mode) {
-        return Scope::Group(target_group(c));
+        return Scope::Group(group_key(c, c.to));
     }
-    Scope::Scene(target_key(c))
+    Scope::Scene(scene_key(c, c.to))
 }

@@ -2,13 +2,13 @@
 #![tactic(auto)]
 
 use commands::Applied;
-use reads::Transition;
 use requests::{CopyRequest, GroupScene, Membership};
 use scenes::ScenesHandler;
 use state::{Outcome, ScenesState};
 use words::{GroupKey, SceneId, SceneKey};
 
-// The calls that change the table come first.
+// The calls that change the table come first. A call is a number and no enum: `make` takes any number, and a narrower type would ask more
+// of its callers.
 const CHANGES: u8 = 12;
 
 pub const CALLS: u8 = 18;
@@ -34,14 +34,7 @@ pub fn key() -> SceneKey {
 
 // Every byte of a scene list buffer is 255 before a call, which is no scene's id.
 fn ids_kept(ids: &[u8]) -> bool {
-    let mut i = 0;
-    while i < ids.len() {
-        if ids[i] != SceneId::RESERVED_SCENE_ID {
-            return false;
-        }
-        i += 1;
-    }
-    true
+    ids.iter().all(|id| *id == SceneId::RESERVED_SCENE_ID)
 }
 
 fn outcome(o: Outcome) -> Done {
@@ -88,7 +81,7 @@ fn sound_status(sound: bool) -> u8 {
     if sound {
         return words::Status::SUCCESS;
     }
-    words::Fault::UNSOUND
+    u8::from(words::Refusal::Unsound)
 }
 
 fn list(state: ScenesState, keys: &[u64], times: &[u32], fields: &[u8], records: &[u64]) -> Done {
@@ -139,7 +132,7 @@ fn query(
     records: &[u64],
 ) -> Done {
     let yes = Membership::Yes;
-    let stored = Transition::Stored;
+    let stored = None;
     match call {
         12 => {
             let found = ScenesHandler { state }.view_scene(

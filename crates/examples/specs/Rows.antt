@@ -10,7 +10,7 @@ use Rattle.requests.specs.declared.Membership.TheVariants.{Yes}
 use Rattle.requests.specs.declared.CopyRequest.{CopyRequest}
 use Rattle.requests.specs.Requests.{copy_gate}
 use Rattle.commands.specs.declared.Applied.{Applied}
-use Rattle.reads.specs.declared.Transition.{Transition}
+use Rattle.reads.specs.Reads.{Transition}
 use Rattle.state.specs.Table.{Table, new_state, empty_table, entries_in, with_entry_count}
 use Rattle.state.specs.Capacity.{remaining}
 use Rattle.state.specs.Answer.{Result}

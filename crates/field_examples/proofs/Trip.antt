@@ -3,16 +3,14 @@ use Prim.Native.Nat.{ℕ, suc, ◌+◌, ◌^◌, ◌≤◌, ◌<◌}
 use mathlib.Core.Path.{◌≡◌, refl, sym, ap, subst, ◌∙◌}
 use mathlib.Core.Bool.{false}
 use mathlib.Core.List.{List, [], ◌∷◌, ◌++◌, append_assoc, map, map-map, map-id, flat_map}
-use mathlib.Core.Option
-use mathlib.Core.Option.{Option, some}
 use native.Mathlib.Omega.{arith}
 use lib.ListN.{length, get_or, length-append}
 use borrow.Author.Tests.{lt-ltb, le-ltb, eq-eqb, ne_eqb}
+use Rattle.std.proofs.Common.{Option, Some, None, option_map}
 use Rattle.tlv.specs.declared.elements.Element.{Element}
-use Rattle.tlv.specs.declared.elements.Parsed.TheVariants.{Whole}
-use Rattle.tlv.specs.declared.passing.Next.TheVariants.{At}
 use Rattle.tlv.specs.Types.{struct_type, array_type, end_type, u64_type}
 use Rattle.tlv.specs.Elements.{opens, element_at}
+use Rattle.tlv.specs.Passing.{reading}
 use Rattle.tlv.specs.Members.{tagged}
 use Rattle.tlv.specs.Encoding.{smallest, context, number_bytes, number_size, Holds}
 use Rattle.tlv.proofs.Codes.{smallest_le, number-length}
@@ -20,12 +18,10 @@ use Rattle.tlv.proofs.Trips.{holds_left, holds_right, holds_first, holds_rest}
 use Rattle.tlv.proofs.Trips.{number_element, number_element_lem, number-held, tagged_element, open_element_lem, end_element_lem}
 use Rattle.tlv_skip.specs.Skipping.{skipped}
 use Rattle.tlv_skip.proofs.Skips.{skip_plain}
-use Rattle.field_sets.specs.declared.pairs.Id.TheVariants.{Read, Unread}
-use Rattle.field_sets.specs.declared.pairs.Pair.TheVariants.{Attribute}
-use Rattle.field_sets.specs.declared.pairs.Array.TheVariants.{Pairs, NoArray}
-use Rattle.field_sets.specs.declared.sets.FieldSet.TheVariants.{Set, End}
-use Rattle.field_sets.specs.Pairs.{max_depth, number_tag, structure_at, number_once, pair_at, pairs_at}
-use Rattle.field_sets.specs.Sets.{pairs_tag, set_at, next_set}
+use Rattle.field_sets.specs.declared.sets.FieldSet.{FieldSet}
+use Rattle.field_sets.specs.declared.sets.NextSet.TheVariants.{Set, End, NoSet}
+use Rattle.field_sets.specs.Pairs.{max_depth, number_tag, structure_at, number_once, whole_pair, pair_at, array_of, pairs_at}
+use Rattle.field_sets.specs.Sets.{pairs_tag, set_of, set_at, next_set}
 use Rattle.field_sets.specs.Reader.{ExtensionFieldSet, field_set, attributes_from, sets_from}
 use Rattle.field_sets.proofs.PairLaws.{paired_from, pair_number, pair_other, pair_ends, pair_begins}
 use Rattle.field_sets.proofs.PairLaws.{arrayed_from, array_goes, array-ends, array_begins}
@@ -61,10 +57,10 @@ module _ (b : List ℕ) where
     abbrev struct_element : Element
     struct_element = record { kind = struct_type; form = 0; tag = 0; value = at + 1; next = at + 1 }
 
-    struct_element_lem : element_at b at ≡ Whole struct_element
+    struct_element_lem : element_at b at ≡ Some struct_element
     struct_element_lem = open_element_lem b at struct_type (holds_first b at struct_type xs h) (omega arith) (omega arith) (omega (arith, h.room))
 
-    struct_inside : structure_at b at ≡ At (at + 1)
+    struct_inside : structure_at b at ≡ Some (at + 1)
     unfolding structure_at
     struct_inside = rw struct_element_lem
 
@@ -78,13 +74,13 @@ module _ (b : List ℕ) where
     unfolding tagged
     number-other l = rw (ne_eqb tag 0 (λ z. omega arith))
 
-    number-skipped : skipped max_depth b at ≡ At (at + number_size v)
+    number-skipped : skipped max_depth b at ≡ Some (at + number_size v)
     unfolding opens
     number-skipped =
         let o : opens (smallest v) ≡ false = rw (le-ltb 20 (smallest v) (omega (arith, smallest_le v))) in
         skip_plain b at _ (number_element_lem b at tag v h) max_depth o
 
-    number-once : v < 2 ^ 32 → number_once b at Unread ≡ Read v
+    number-once : v < 2 ^ 32 → number_once b at None ≡ Some v
     number-once l = rw (number-held b at tag v h u64_type (omega (arith, smallest_le v)) (omega arith), lt-ltb v (2 ^ 32) l)
 
   -- what stands behind it
@@ -98,23 +94,23 @@ module _ (b : List ℕ) where
   others-read :
       (a : ℕ) (os : List Other) → Every SmallOther os → (at : ℕ) →
       Holds b at (flat_map other_bytes os ++ (end_type ∷ [])) →
-      paired_from b (Read a) at ≡ Attribute a (at + length (flat_map other_bytes os) + 1)
+      paired_from b (Some a) at ≡ Some (whole_pair a (at + length (flat_map other_bytes os) + 1))
   unfolding flat_map
   others-read a [] s at h =
-      pair_ends b (Read a) at _ (end_element_lem b at (holds_first b at end_type [] h) (omega (arith, h.room))) refl ∙ ap (Attribute a) (omega arith)
+      pair_ends b (Some a) at _ (end_element_lem b at (holds_first b at end_type [] h) (omega (arith, h.room))) refl ∙ ap (λ (n : ℕ). Some (whole_pair a n)) (omega arith)
   others-read a (o ∷ os) s at h =
       let g = first_held other_bytes o os b at (end_type ∷ []) h in
       let n = number-length o.tag o.value in
       let e : at + length (other_bytes o) ≡ at + number_size o.value = omega (arith, n) in
       let r = subst (λ (k : ℕ). Holds b k (flat_map other_bytes os ++ (end_type ∷ []))) e (more_held other_bytes o os b at (end_type ∷ []) h) in
-      pair_other b (Read a) at _ (number_element_lem b at o.tag o.value g) (number_goes at o.tag o.value g)
+      pair_other b (Some a) at _ (number_element_lem b at o.tag o.value g) (number_goes at o.tag o.value g)
       (number-other at o.tag o.value g s.0.tagged) _ (number-skipped at o.tag o.value g)
       ∙ others-read a os s.1 (at + number_size o.value) r
-      ∙ ap (Attribute a) (omega (arith, n, more_length other_bytes o os))
+      ∙ ap (λ (n : ℕ). Some (whole_pair a n)) (omega (arith, n, more_length other_bytes o os))
 
   pair_read :
       (p : WrittenPair) → SmallPair p → (at : ℕ) → Holds b at (pair_bytes p) →
-      pair_at b at ≡ Attribute p.attribute (at + length (pair_bytes p))
+      pair_at b at ≡ Some (whole_pair p.attribute (at + length (pair_bytes p)))
   unfolding pair_at tagged
   pair_read p s at h =
       let os = flat_map other_bytes p.others in
@@ -124,10 +120,10 @@ module _ (b : List ℕ) where
       let n = number-length number_tag p.attribute in
       rw (struct_inside at (number_bytes number_tag p.attribute ++ (os ++ (end_type ∷ []))) h)
       (sym (pair_begins b (at + 1))
-      ∙ pair_number b Unread (at + 1) _ (number_element_lem b (at + 1) number_tag p.attribute number)
+      ∙ pair_number b None (at + 1) _ (number_element_lem b (at + 1) number_tag p.attribute number)
       (number_goes (at + 1) number_tag p.attribute number) refl p.attribute (number-once (at + 1) number_tag p.attribute number s.attribute)
       ∙ others-read p.attribute p.others s.others (at + 1 + number_size p.attribute) behind
-      ∙ ap (Attribute p.attribute)
+      ∙ ap (λ (n : ℕ). Some (whole_pair p.attribute n))
       (omega (arith, n, length-append (number_bytes number_tag p.attribute) (os ++ (end_type ∷ [])), length-append os (end_type ∷ []))))
 
   -- ---- an array of pairs
@@ -136,18 +132,18 @@ module _ (b : List ℕ) where
   pairs-read :
       (first : ℕ) (ps : List WrittenPair) → Every SmallPair ps → (count at : ℕ) (rest : List ℕ) →
       Holds b at (flat_map pair_bytes ps ++ (end_type ∷ rest)) →
-      arrayed_from b first count at ≡ Pairs first (count + length ps) (at + length (flat_map pair_bytes ps) + 1)
+      arrayed_from b first count at ≡ Some (array_of first (count + length ps) (at + length (flat_map pair_bytes ps) + 1))
   unfolding flat_map
   pairs-read first [] s count at rest h =
       array-ends b first count at _ (end_element_lem b at (holds_first b at end_type rest h) (omega (arith, h.room))) refl
-      ∙ ap (λ (n : ℕ). Pairs first n (at + 1)) (omega arith)
-      ∙ ap (Pairs first (count + 0)) (omega arith)
+      ∙ ap (λ (n : ℕ). Some (array_of first n (at + 1))) (omega arith)
+      ∙ ap (λ (n : ℕ). Some (array_of first (count + 0) n)) (omega arith)
   pairs-read first (p ∷ ps) s count at rest h =
       let g = first_held pair_bytes p ps b at (end_type ∷ rest) h in
       array_goes b first count at _ (struct_element_lem at _ g) (λ z. omega arith) p.attribute _ (pair_read p s.0 at g)
       ∙ pairs-read first ps s.1 (count + 1) (at + length (pair_bytes p)) rest (more_held pair_bytes p ps b at (end_type ∷ rest) h)
-      ∙ ap (λ (n : ℕ). Pairs first n (at + length (pair_bytes p) + length (flat_map pair_bytes ps) + 1)) (omega arith)
-      ∙ ap (Pairs first (count + suc (length ps))) (omega (arith, more_length pair_bytes p ps))
+      ∙ ap (λ (n : ℕ). Some (array_of first n (at + length (pair_bytes p) + length (flat_map pair_bytes ps) + 1))) (omega arith)
+      ∙ ap (λ (n : ℕ). Some (array_of first (count + suc (length ps)) n)) (omega (arith, more_length pair_bytes p ps))
 
   attributes-read :
       (ps : List WrittenPair) → Every SmallPair ps → (at : ℕ) (rest : List ℕ) →
@@ -203,21 +199,21 @@ module _ (b : List ℕ) where
     end_held : Holds b behind (end_type ∷ [])
     end_held = holds_rest b (first + length pairs) end_type (end_type ∷ []) (holds_right b first pairs ends pairs-held)
 
-    array-read : pairs_at b first ≡ Pairs first (length s.pairs) behind
+    array-read : pairs_at b first ≡ Some (array_of first (length s.pairs) behind)
     array-read =
         sym (array_begins b first)
         ∙ pairs-read first s.pairs fits.pairs 0 first (end_type ∷ []) pairs-held
-        ∙ ap (λ (n : ℕ). Pairs first n behind) (omega arith)
+        ∙ ap (λ (n : ℕ). Some (array_of first n behind)) (omega arith)
 
-    members_read_lem : settled_from b Unread NoArray (at + 1) ≡ Set s.cluster first (length s.pairs) (behind + 1)
+    members_read_lem : settled_from b None None (at + 1) ≡ Some (set_of s.cluster first (length s.pairs) (behind + 1))
     unfolding tagged
     members_read_lem =
-        set-number b Unread NoArray (at + 1) _ (number_element_lem b (at + 1) number_tag s.cluster cluster-held)
+        set-number b None None (at + 1) _ (number_element_lem b (at + 1) number_tag s.cluster cluster-held)
         (number_goes (at + 1) number_tag s.cluster cluster-held) refl s.cluster
         (number-once (at + 1) number_tag s.cluster cluster-held fits.cluster)
-        ∙ set-array b (Read s.cluster) NoArray array_from _ (tagged_element b array_from pairs_tag array_type head-held (omega arith) (omega arith))
+        ∙ set-array b (Some s.cluster) None array_from _ (tagged_element b array_from pairs_tag array_type head-held (omega arith) (omega arith))
         (λ z. omega arith) refl refl first (length s.pairs) behind array-read
-        ∙ set-ends b (Read s.cluster) (Pairs first (length s.pairs) behind) behind _
+        ∙ set-ends b (Some s.cluster) (Some (array_of first (length s.pairs) behind)) behind _
         (end_element_lem b behind (holds_first b behind end_type [] end_held) (omega (arith, end_held.room))) refl
 
     abbrev next : ℕ
@@ -233,15 +229,16 @@ module _ (b : List ℕ) where
           length-append pairs ends,
         )
 
-    set-read : next_set b at ≡ Set s.cluster first (length s.pairs) next
+    set-read : next_set b at ≡ Set (set_of s.cluster first (length s.pairs) next)
     unfolding next_set set_at
     set-read =
         rw (ne_eqb (length b) 0 (λ z. omega (arith, h.room)), struct_element_lem at members h, struct_inside at members h)
-        (sym (set_begins b (at + 1)) ∙ members_read_lem ∙ ap (Set s.cluster first (length s.pairs)) next_position)
+        (ap (λ (r : Option FieldSet). reading r NoSet Set) (sym (set_begins b (at + 1)) ∙ members_read_lem)
+        ∙ ap (λ (n : ℕ). Set (set_of s.cluster first (length s.pairs) n)) next_position)
 
-    set_in_front : (r : Option (List ExtensionFieldSet)) → in_front b s.cluster first (length s.pairs) r ≡ Option.map (λ ss. bare s ∷ ss) r
+    set_in_front : (r : Option (List ExtensionFieldSet)) → in_front b s.cluster first (length s.pairs) r ≡ option_map (λ ss. bare s ∷ ss) r
     set_in_front r =
-        ap (λ (xs : List ℕ). Option.map (λ ss. field_set s.cluster xs ∷ ss) r) (attributes-read s.pairs fits.pairs first ends pairs-held)
+        ap (λ (xs : List ℕ). option_map (λ ss. field_set s.cluster xs ∷ ss) r) (attributes-read s.pairs fits.pairs first ends pairs-held)
 
   -- ---- the sets up to the end
 
@@ -256,7 +253,7 @@ module _ (b : List ℕ) where
 
   sets-read :
       (ss : List WrittenSet) → AllSmall ss → (at : ℕ) → Holds b at (field_bytes ss) → at + length (field_bytes ss) ≡ length b →
-      sets_from b at ≡ some (map bare ss)
+      sets_from b at ≡ Some (map bare ss)
   unfolding flat_map
   sets-read [] s at h e = sets_end b at (end_read at h e)
   sets-read (x ∷ xs) s at h e =
@@ -264,7 +261,7 @@ module _ (b : List ℕ) where
       let n = next x s.0 at g in
       sets_more b at x.cluster (first x s.0 at g) (length x.pairs) n (set-read x s.0 at g)
       ∙ set_in_front x s.0 at g (sets_from b n)
-      ∙ ap (Option.map (λ ss. bare x ∷ ss))
+      ∙ ap (option_map (λ ss. bare x ∷ ss))
       (sets-read xs s.1 n (more_held set_bytes x xs b at (end_type ∷ []) h)
       (omega (
         arith,
@@ -300,4 +297,4 @@ plain-bare [] = refl
 plain-bare (x ∷ xs) = λ i. field_set x.cluster (plain-attributes x.attributes i) ∷ plain-bare xs i
 
 pub plain_reads_back : PlainReadsBack
-plain_reads_back ss s = reads_back (map plain_set ss) (plain_small ss s) ∙ ap some (plain-bare ss)
+plain_reads_back ss s = reads_back (map plain_set ss) (plain_small ss s) ∙ ap Some (plain-bare ss)

@@ -1,9 +1,8 @@
 -- Field bytes that are written, and that they are read back: document 02, Q-2, by document 01's layout ("Forms that change first"). Every number
 -- stands in its smallest width, as write.rs of rs-matter-tlv has it. In a pair other numbers may stand behind the attribute number. The plain
 -- encoding has none; the Rust's capture (scenes.rs) has one, the value: under tag 1 by `push_u8`, under tag 3 by `push_u16`.
-use Rattle.std.specs.Prelude.{ℕ, ◌^◌, ◌≤◌, ◌<◌, ◌≡◌}
+use Rattle.std.specs.Prelude.{ℕ, ◌^◌, ◌≤◌, ◌<◌, ◌≡◌, Some}
 use mathlib.Core.List.{List, [], ◌∷◌, ◌++◌, map, flat_map}
-use Rattle.std.proofs.Math.Option.{some}
 use Rattle.tlv.specs.Types.{struct_type, array_type, end_type}
 use Rattle.tlv.specs.Encoding.{context, number_bytes}
 use Rattle.field_sets.specs.Pairs.{number_tag}
@@ -74,7 +73,7 @@ AllSmall ss = Every SmallSet ss
 -- ---- what is written is read back
 
 abbrev pub ReadsBack : Type 0
-ReadsBack = (ss : List WrittenSet) → AllSmall ss → sets_in (field_bytes ss) ≡ some (map bare ss)
+ReadsBack = (ss : List WrittenSet) → AllSmall ss → sets_in (field_bytes ss) ≡ Some (map bare ss)
 
 -- ---- the same of the plain encoding
 
@@ -93,4 +92,4 @@ pub record SmallNumbers (s : ExtensionFieldSet) : Type 0 where
   pub attributes : Every (λ (a : ℕ). a < 2 ^ 32) s.attributes
 
 abbrev pub PlainReadsBack : Type 0
-PlainReadsBack = (ss : List ExtensionFieldSet) → Every SmallNumbers ss → sets_in (plain_bytes ss) ≡ some ss
+PlainReadsBack = (ss : List ExtensionFieldSet) → Every SmallNumbers ss → sets_in (plain_bytes ss) ≡ Some ss

@@ -1,9 +1,6 @@
 -- Document 02, Q-2: what field bytes are read as, as one table of rows, by document 01's layout ("Forms that change first"): sets up to "0x18",
 -- the cluster number under tag 0, the array of pairs under tag 1, the attribute number of a pair under tag 0. Bytes stand in parts with a name.
-use Rattle.std.specs.Prelude.{ℕ, ◌+◌, ◌-◌, ◌^◌, ◌≡◌, List, [], ◌∷◌, ◌++◌, map, replicate}
-use Rattle.std.proofs.Math.Option.{Option, none, some}
-use Rattle.tlv.specs.declared.passing.Next.{Next}
-use Rattle.tlv.specs.declared.passing.Next.TheVariants.{At, Broken}
+use Rattle.std.specs.Prelude.{ℕ, ◌+◌, ◌-◌, ◌^◌, ◌≡◌, List, [], ◌∷◌, ◌++◌, map, replicate, Option, Some, None}
 use Rattle.tlv_skip.specs.Skipping.{skipped}
 use Rattle.field_sets.specs.Pairs.{max_depth}
 use Rattle.field_sets.specs.Reader.{ExtensionFieldSet, field_set, sets_in}
@@ -15,7 +12,7 @@ pub data Outcome : Type 0 where
   -- the sets in field bytes, or that the bytes are refused
   Sets : Option (List ExtensionFieldSet) → Outcome
   -- the position behind an element that is skipped, or that it is refused
-  Behind : Next → Outcome
+  Behind : Option ℕ → Outcome
   -- field bytes that are written
   Bytes : List ℕ → Outcome
 
@@ -35,17 +32,17 @@ EveryRow (g ∷ gs) = Hold g × EveryRow gs
 -- ---- kinds of rows
 
 abbrev pub reads : List ExtensionFieldSet → List ℕ → Row
-reads sets bytes = record { computed = Sets (sets_in bytes); written = Sets (some sets) }
+reads sets bytes = record { computed = Sets (sets_in bytes); written = Sets (Some sets) }
 
 abbrev pub refuses : List ℕ → Row
-refuses bytes = record { computed = Sets (sets_in bytes); written = Sets none }
+refuses bytes = record { computed = Sets (sets_in bytes); written = Sets None }
 
 -- a single set of cluster 6 with these attribute numbers
 abbrev pub reads_six : List ℕ → List ℕ → Row
 reads_six attributes bytes = reads (field_set 6 attributes ∷ []) bytes
 
 -- the element at the front, skipped as another member is
-abbrev pub skips : Next → List ℕ → Row
+abbrev pub skips : Option ℕ → List ℕ → Row
 skips next bytes = record { computed = Behind (skipped max_depth bytes 0); written = Behind next }
 
 -- these bytes are written
@@ -244,8 +241,8 @@ abbrev pub depth_rows : List Row
 depth_rows =
     reads_six (1 ∷ []) (in_pair (nested 0x15 16))
     ∷ refuses (in_pair (nested 0x15 17))
-    ∷ skips (At 33) (nested 0x15 16)
-    ∷ skips Broken (nested 0x15 17)
+    ∷ skips (Some 33) (nested 0x15 16)
+    ∷ skips None (nested 0x15 17)
     ∷ []
 
 abbrev pub container_rows : List Row

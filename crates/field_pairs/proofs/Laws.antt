@@ -4,44 +4,41 @@ use mathlib.Core.Path.{◌≡◌, refl, sym, ap, ◌∙◌}
 use mathlib.Core.Logic.{◌⊎◌, inl, inr}
 use mathlib.Core.Bool.{true, false, cond}
 use mathlib.Core.List.{List, ◌++◌}
-use mathlib.Core.Option.{Option, none, some}
 use native.Mathlib.Omega.{arith}
 use lib.Dec.{ltb}
 use lib.ListN.{length, drop}
 use borrow.Author.Tests.{lt-ltb, le-ltb}
+use Rattle.std.proofs.Common.{Option, Some, None}
+use Rattle.std.proofs.lemmas.Option.{none-some}
 use Rattle.words.specs.Constants.{success, buffer_too_short, bad_field_sets}
 use Rattle.text_output.specs.Writing.{sheet, puts}
 use Rattle.text_output.proofs.Whole.{puts_whole}
-use Rattle.field_sets.specs.declared.reader.Total.TheVariants.{Counted, Unreadable}
 use Rattle.field_sets.specs.Reader.{ExtensionFieldSet, pairs_of, sets_in, total_of}
 use Rattle.field_pairs.specs.Words.{readable, words_in}
 use Rattle.field_pairs.specs.Listing.{Listing, listing_of, answered, unlisted, listed, listing, list_pairs}
 
-no_total : {A : Type 0} (n : ℕ) → Unreadable ≡ Counted n → A
-no_total n e = let z : ◌≡◌ {A = ℕ} 0 1 = cc in let w : ⊥ = omega arith in absurd w
-
 module _ (r : Option (List ExtensionFieldSet)) (buffer : List ℕ) where
-  unread : total_of r ≡ Unreadable → unlisted buffer bad_field_sets ≡ listing r buffer
+  unread : total_of r ≡ None → unlisted buffer bad_field_sets ≡ listing r buffer
   unread =
-      elim r as (λ x. total_of x ≡ Unreadable → unlisted buffer bad_field_sets ≡ listing x buffer) [
-        | none ↦ λ e. refl
-        | some ss ↦ λ e. no_total (length (pairs_of ss)) (sym e)
+      elim r as (λ x. total_of x ≡ None → unlisted buffer bad_field_sets ≡ listing x buffer) [
+        | None ↦ λ e. refl
+        | Some ss ↦ λ e. absurd (none-some (length (pairs_of ss)) (sym e))
       ]
 
   module _ (n : ℕ) where
-    counted : total_of r ≡ Counted n → (readable r ≡ true) × (n ≡ length (words_in r)) × (listing r buffer ≡ listed (words_in r) buffer)
+    counted : total_of r ≡ Some n → (readable r ≡ true) × (n ≡ length (words_in r)) × (listing r buffer ≡ listed (words_in r) buffer)
     counted =
-        elim r as (λ x. total_of x ≡ Counted n → (readable x ≡ true) × (n ≡ length (words_in x)) × (listing x buffer ≡ listed (words_in x) buffer)) [
-          | none ↦ λ e. no_total n e
-          | some ss ↦ λ e. let l : n ≡ length (pairs_of ss) = cc in (refl, l, refl)
+        elim r as (λ x. total_of x ≡ Some n → (readable x ≡ true) × (n ≡ length (words_in x)) × (listing x buffer ≡ listed (words_in x) buffer)) [
+          | None ↦ λ e. absurd (none-some n e)
+          | Some ss ↦ λ e. let l : n ≡ length (pairs_of ss) = cc in (refl, l, refl)
         ]
 
 module _ (bytes buffer : List ℕ) where
-  pub list-unread : total_of (sets_in bytes) ≡ Unreadable → unlisted buffer bad_field_sets ≡ list_pairs bytes buffer
+  pub list-unread : total_of (sets_in bytes) ≡ None → unlisted buffer bad_field_sets ≡ list_pairs bytes buffer
   unfolding list_pairs
   list-unread e = unread (sets_in bytes) buffer e
 
-  module _ (n : ℕ) (e : total_of (sets_in bytes) ≡ Counted n) where
+  module _ (n : ℕ) (e : total_of (sets_in bytes) ≡ Some n) where
     pub list-readable : readable (sets_in bytes) ≡ true
     list-readable = (counted (sets_in bytes) buffer n e).0
 
@@ -78,8 +75,8 @@ module _ (bytes buffer : List ℕ) where
   unfolding list_pairs listed
   answers =
       elim (sets_in bytes) as (λ r. Answers (listing r buffer)) [
-        | none ↦ (inr (inr refl), λ n. refl)
-        | some ss ↦
+        | None ↦ (inr (inr refl), λ n. refl)
+        | Some ss ↦
             elim (ltb (length buffer) (length (pairs_of ss))) as
             (λ t.
             Answers

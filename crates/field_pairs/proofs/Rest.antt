@@ -3,17 +3,16 @@ use Prim.Native.Nat.{ℕ, zero, suc, ◌+◌, ◌-◌, ◌≤◌, ◌<◌}
 use mathlib.Core.Path.{◌≡◌, refl, sym, ap, ◌∙◌}
 use mathlib.Core.Bool.{true, false, cond, false≢true}
 use mathlib.Core.List.{List, [], ◌∷◌, ◌++◌, map, flat_map}
-use mathlib.Core.Option.{Option, none, some}
 use native.Mathlib.Omega.{arith}
 use lib.Dec.{ltb}
 use lib.ListN.{length, set, length-set}
+use Rattle.std.proofs.Common.{Option, Some, None}
 use Rattle.text_output.specs.Writing.{Sheet, sheet, put_byte, puts}
-use Rattle.field_sets.specs.declared.pairs.Pair.TheVariants as pair
-use Rattle.field_sets.specs.declared.sets.FieldSet.TheVariants.{Set, End, NoSet}
+use Rattle.field_sets.specs.declared.sets.NextSet.TheVariants.{Set, End, NoSet}
 use Rattle.field_sets.specs.declared.reader.Cursor.{Cursor}
 use Rattle.field_sets.specs.declared.reader.Item.TheVariants.{Cluster, Attribute, Done, Refused}
-use Rattle.field_sets.specs.Pairs.{pair_at}
-use Rattle.field_sets.specs.Sets.{next_set}
+use Rattle.field_sets.specs.Pairs.{whole_pair, pair_at}
+use Rattle.field_sets.specs.Sets.{set_of, next_set}
 use Rattle.field_sets.specs.Reader.{ExtensionFieldSet, attributes_from, sets_from, pair_word, pairs_of}
 use Rattle.field_sets.specs.Reader.{cursor_of, start, next_item}
 use Rattle.field_sets.proofs.SetLaws.{set-within}
@@ -41,8 +40,8 @@ module _ (b : List ℕ) where
   words_more : (v f c : ℕ) (r : Option (List ExtensionFieldSet)) → readable (in_front b v f c r) ≡ true →
       (readable r ≡ true) × (words_in (in_front b v f c r) ≡ map (pair_word v) (attributes_from b c f) ++ words_in r)
   unfolding pairs_of flat_map
-  words_more v f c none e = absurd (false≢true e)
-  words_more v f c (some ss) e = (refl, refl)
+  words_more v f c None e = absurd (false≢true e)
+  words_more v f c (Some ss) e = (refl, refl)
 
   -- a step to a cluster
   pub record ToCluster (cluster : ℕ) (c : Cursor) (v : ℕ) (d : Cursor) : Type 0 where
@@ -64,21 +63,21 @@ module _ (b : List ℕ) where
   attributes_none (suc left) pair z = let w : ⊥ = omega (arith, z) in absurd w
 
   attributes_one :
-      (left at a n : ℕ) → (left ≡ 0 → ⊥) → pair_at b at ≡ pair.Attribute a n → attributes_from b left at ≡ a ∷ attributes_from b (left - 1) n
+      (left at a n : ℕ) → (left ≡ 0 → ⊥) → pair_at b at ≡ Some (whole_pair a n) → attributes_from b left at ≡ a ∷ attributes_from b (left - 1) n
   unfolding attributes_from
   attributes_one zero at a n z e = absurd (z refl)
   attributes_one (suc left) at a n z e =
       let k : left ≡ suc left - 1 = omega arith in
       rw e (ap (λ (i : ℕ). a ∷ attributes_from b i n) k)
 
-  attributes-unread : (left at : ℕ) → (left ≡ 0 → ⊥) → pair_at b at ≡ pair.NoPair → attributes_from b left at ≡ []
+  attributes-unread : (left at : ℕ) → (left ≡ 0 → ⊥) → pair_at b at ≡ None → attributes_from b left at ≡ []
   unfolding attributes_from
   attributes-unread zero at z e = absurd (z refl)
   attributes-unread (suc left) at z e = rw e
 
   module _ (cluster : ℕ) (c : Cursor) (q : Readable c) where
     -- a set that stands at the cursor
-    set-step : (v f k n : ℕ) → c.left ≡ 0 → next_set b c.set ≡ Set v f k n → ToCluster cluster c v (cursor_of f k n)
+    set-step : (v f k n : ℕ) → c.left ≡ 0 → next_set b c.set ≡ Set (set_of v f k n) → ToCluster cluster c v (cursor_of f k n)
     set-step v f k n z e =
         let w = set-within b c.set v f k n e in
         let m = sets_more b c.set v f k n e in
@@ -119,7 +118,7 @@ module _ (b : List ℕ) where
     set-refused : {A : Type 0} → next_set b c.set ≡ NoSet → A
     set-refused e = absurd (false≢true (ap readable (sym (sets_none b c.set e)) ∙ q.sets))
 
-    pair_refused : {A : Type 0} → (c.left ≡ 0 → ⊥) → pair_at b c.pair ≡ pair.NoPair → A
+    pair_refused : {A : Type 0} → (c.left ≡ 0 → ⊥) → pair_at b c.pair ≡ None → A
     pair_refused z e = let w : ⊥ = omega (arith, ap length (attributes-unread c.left c.pair z e), q.pairs, z) in absurd w
 
     -- ---- by what the reader yields

@@ -1,8 +1,7 @@
 -- The pairs of field bytes, written into a lent buffer: document 02, Q-2, for hosts that want them as a list. A pair is one word, its cluster
 -- number times 2^32 plus its attribute number. 11, where the bytes are no list of extension field sets; then 8, a buffer that is too short;
 -- neither writes.
-use Rattle.std.specs.Prelude.{ℕ, cond, List, ◌++◌, ltb, length, drop}
-use Rattle.std.proofs.Math.Option.{Option, none, some}
+use Rattle.std.specs.Prelude.{ℕ, cond, List, ◌++◌, ltb, length, drop, Option, Some, None}
 use Rattle.words.specs.Constants.{success, buffer_too_short, bad_field_sets}
 use Rattle.field_sets.specs.Reader.{ExtensionFieldSet, sets_in, pairs_of}
 use Rattle.field_pairs.specs.declared.PairsRead.{PairsRead}
@@ -29,8 +28,8 @@ listed words buffer =
     (listing_of (answered success (length words)) (words ++ drop (length words) buffer))
 
 abbrev pub listing : Option (List ExtensionFieldSet) → List ℕ → Listing
-listing none buffer = unlisted buffer bad_field_sets
-listing (some ss) buffer = listed (pairs_of ss) buffer
+listing None buffer = unlisted buffer bad_field_sets
+listing (Some ss) buffer = listed (pairs_of ss) buffer
 
 unfoldable pub list_pairs : List ℕ → List ℕ → Listing
 list_pairs bytes buffer = listing (sets_in bytes) buffer

@@ -3,12 +3,13 @@
 
 ghost use Rattle.std.specs.Prelude.{◌≡◌, true, [], ◌∷◌};
 ghost use Rattle.text_output.specs.Writing.{sheet, put_byte, puts};
+ghost use Rattle.words.specs.Refusals.{number_of};
 ghost use Rattle.field_sets.specs.Reader.{pair_word, sets_in};
 ghost use Rattle.field_pairs.specs.Listing.{answered, listing_of, list_pairs};
 ghost use Rattle.field_pairs.specs.Words.{readable, words_in};
 
-use field_sets::{Cursor, Item, Total, count_pairs};
-use words::{Fault, Status};
+use field_sets::{Cursor, Item, count_pairs};
+use words::{Refusal, Status};
 
 // The answer: how many pairs stand in the buffer's front.
 #[repr(C)]
@@ -19,10 +20,13 @@ pub struct PairsRead {
 }
 
 impl PairsRead {
-    fn refused(status: u8) -> PairsRead
-        ensures { result ≡ answered status 0 }
+    fn refused(refusal: Refusal) -> PairsRead
+        ensures { result ≡ answered (number_of refusal) 0 }
     {
-        PairsRead { status, len: 0 }
+        PairsRead {
+            status: u8::from(refusal),
+            len: 0,
+        }
     }
 }
 
@@ -30,7 +34,7 @@ impl PairsRead {
 fn pair_word(cluster: u32, attribute: u32) -> u64
     ensures { result ≡ pair_word cluster attribute }
 {
-    cluster as u64 * 0x1_0000_0000 + attribute as u64
+    u64::from(cluster) * 0x1_0000_0000 + u64::from(attribute)
 }
 
 // A word at a position: the next position.
@@ -62,12 +66,7 @@ fn put_pairs(out: &mut [u64], bytes: &[u8]) -> usize
                 n = put_word(out, n, pair_word(cluster, a));
                 cursor = next;
             }
-            Item::Done => {
-                return n;
-            }
-            Item::Refused => {
-                return n;
-            }
+            Item::Done | Item::Refused => return n,
         }
     }
 }
@@ -76,11 +75,11 @@ fn put_pairs(out: &mut [u64], bytes: &[u8]) -> usize
 pub fn list_pairs(bytes: &[u8], pairs: &mut [u64]) -> PairsRead
     ensures { listing_of result pairs.new ≡ list_pairs bytes.now pairs.old }
 {
-    let Total::Counted(n) = count_pairs(bytes) else {
-        return PairsRead::refused(Fault::BAD_FIELD_SETS);
+    let Some(n) = count_pairs(bytes) else {
+        return PairsRead::refused(Refusal::BadFieldSets);
     };
     if pairs.len() < n {
-        return PairsRead::refused(Fault::BUFFER_TOO_SHORT);
+        return PairsRead::refused(Refusal::BufferTooShort);
     }
     let len = put_pairs(pairs, bytes);
     PairsRead {

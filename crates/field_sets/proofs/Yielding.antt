@@ -2,16 +2,15 @@
 use Prim.Native.Nat.{ℕ, zero, suc, ◌+◌, ◌-◌, ◌≤◌, ◌<◌}
 use mathlib.Core.Path.{◌≡◌, refl, sym, ap, subst}
 use mathlib.Core.List.{List, [], ◌∷◌, ◌++◌, map, flat_map}
-use mathlib.Core.Option
-use mathlib.Core.Option.{Option, none, some}
 use native.Mathlib.Omega.{arith}
 use lib.ListN.{length}
 use borrow.Author.Tests.{ne_eqb}
-use Rattle.field_sets.specs.declared.pairs.Pair.TheVariants.{Attribute, NoPair}
-use Rattle.field_sets.specs.declared.sets.FieldSet.TheVariants.{Set, End, NoSet}
+use Rattle.std.proofs.Common.{Option, Some, None, option_map}
+use Rattle.tlv.specs.Passing.{reading}
+use Rattle.field_sets.specs.declared.sets.NextSet.TheVariants.{Set, End, NoSet}
 use Rattle.field_sets.specs.declared.reader.Item.TheVariants as item
-use Rattle.field_sets.specs.Pairs.{pair_at, pairing}
-use Rattle.field_sets.specs.Sets.{next_set, setting}
+use Rattle.field_sets.specs.Pairs.{whole_pair, pair_at}
+use Rattle.field_sets.specs.Sets.{set_of, next_set, setting}
 use Rattle.field_sets.specs.Reader.{ExtensionFieldSet, field_set, attributes_from, sets, cursor_of, next_item}
 use Rattle.field_sets.specs.Reader.{Yield, cluster, attribute, items_of, yielded, Walk, done, refused, at_cluster, at_attribute, Yields}
 use Rattle.field_sets.proofs.SetLaws.{set-within}
@@ -19,26 +18,26 @@ use Rattle.field_sets.proofs.ReaderLaws.{in_front, attributes-count}
 
 -- attributes in front of what is yielded behind them
 abbrev with_attributes : List ℕ → Option (List Yield) → Option (List Yield)
-with_attributes xs r = Option.map (λ ys. map attribute xs ++ ys) r
+with_attributes xs r = option_map (λ ys. map attribute xs ++ ys) r
 
 none_first : (r : Option (List Yield)) → with_attributes [] r ≡ r
-none_first none = refl
-none_first (some ys) = refl
+none_first None = refl
+none_first (Some ys) = refl
 
 one_first : (a : ℕ) (xs : List ℕ) (r : Option (List Yield)) → yielded (attribute a) (with_attributes xs r) ≡ with_attributes (a ∷ xs) r
-one_first a xs none = refl
-one_first a xs (some ys) = refl
+one_first a xs None = refl
+one_first a xs (Some ys) = refl
 
 set_first : (v : ℕ) (xs : List ℕ) (r : Option (List ExtensionFieldSet)) →
-    yielded (cluster v) (with_attributes xs (items_of r)) ≡ items_of (Option.map (λ ss. field_set v xs ∷ ss) r)
+    yielded (cluster v) (with_attributes xs (items_of r)) ≡ items_of (option_map (λ ss. field_set v xs ∷ ss) r)
 unfolding flat_map
-set_first v xs none = refl
-set_first v xs (some ss) = refl
+set_first v xs None = refl
+set_first v xs (Some ss) = refl
 
 module _ (b : List ℕ) where
   -- ---- the pairs of a set
 
-  pair_next : (pair left set a n : ℕ) → pair_at b pair ≡ Attribute a n → next_item b (cursor_of pair (suc left) set) ≡ item.Attribute a (cursor_of n left set)
+  pair_next : (pair left set a n : ℕ) → pair_at b pair ≡ Some (whole_pair a n) → next_item b (cursor_of pair (suc left) set) ≡ item.Attribute a (cursor_of n left set)
   unfolding next_item
   pair_next pair left set a n e =
       let z : suc left - 1 ≡ left = omega arith in
@@ -55,9 +54,11 @@ module _ (b : List ℕ) where
       elim (pair_at b pair) as
       (λ q.
       pair_at b pair ≡ q →
-      length (pairing q [] (λ a n. a ∷ attributes_from b left n)) ≡ suc left →
-      Walk b (cursor_of pair (suc left) set) (with_attributes (pairing q [] (λ a n. a ∷ attributes_from b left n)) r)) [
-        | Attribute a n ↦ λ e l.
+      length (reading q [] (λ p. p.attribute ∷ attributes_from b left p.next)) ≡ suc left →
+      Walk b (cursor_of pair (suc left) set) (with_attributes (reading q [] (λ p. p.attribute ∷ attributes_from b left p.next)) r)) [
+        | Some p ↦ λ e l.
+            let a : ℕ = p.attribute in
+            let n : ℕ = p.next in
             subst (Walk b (cursor_of pair (suc left) set)) (one_first a (attributes_from b left n) r)
             (at_attribute
             (cursor_of pair (suc left) set)
@@ -66,13 +67,13 @@ module _ (b : List ℕ) where
             (with_attributes (attributes_from b left n) r)
             (pair_next pair left set a n e)
             (walk_pairs left n set r w (omega (arith, l))))
-        | NoPair ↦ λ e l. let w : ⊥ = omega (arith, l) in absurd w
+        | None ↦ λ e l. let w : ⊥ = omega (arith, l) in absurd w
       ] refl
 
   -- ---- the sets
 
   module _ (pair set : ℕ) where
-    set_next : (v f c n : ℕ) → next_set b set ≡ Set v f c n → next_item b (cursor_of pair 0 set) ≡ item.Cluster v (cursor_of f c n)
+    set_next : (v f c n : ℕ) → next_set b set ≡ Set (set_of v f c n) → next_item b (cursor_of pair 0 set) ≡ item.Cluster v (cursor_of f c n)
     unfolding next_item
     set_next v f c n e = rw e
 
@@ -89,8 +90,12 @@ module _ (b : List ℕ) where
   walk_sets zero at l m p = let w : ⊥ = omega arith in absurd w
   walk_sets (suc k) at l m p =
       elim (next_set b at) as
-      (λ r. next_set b at ≡ r → Walk b (cursor_of p 0 at) (items_of (setting r (some []) none (λ v f c n. in_front b v f c (sets b k n))))) [
-        | Set v f c n ↦ λ e.
+      (λ r. next_set b at ≡ r → Walk b (cursor_of p 0 at) (items_of (setting r (Some []) None (λ s. in_front b s.cluster s.first s.count (sets b k s.next))))) [
+        | Set s ↦ λ e.
+            let v : ℕ = s.cluster in
+            let f : ℕ = s.first in
+            let c : ℕ = s.count in
+            let n : ℕ = s.next in
             let w = set-within b at v f c n e in
             subst (Walk b (cursor_of p 0 at)) (set_first v (attributes_from b c f) (sets b k n))
             (at_cluster

@@ -5,4 +5,4 @@ mod pairs;
 mod reader;
 mod sets;
 
-pub use reader::{Cursor, Item, Total, count_pairs};
+pub use reader::{Cursor, Item, count_pairs};

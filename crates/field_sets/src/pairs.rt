@@ -1,9 +1,9 @@
 // A pair, and an array of pairs.
 ghost use Rattle.std.specs.Prelude.{◌≡◌};
 ghost use Rattle.tlv.specs.Members.{tagged};
-ghost use Rattle.field_sets.specs.Pairs.{structure_at, number_once, pair_of, pair_from, pair_at, pairs_at};
+ghost use Rattle.field_sets.specs.Pairs.{structure_at, number_once, pair_from, pair_at, pairs_at};
 
-use tlv::{Element, Next, Number, Parsed, TagType, ValueType, element_at, number_at};
+use tlv::{Element, TagType, ValueType, element_at, number_at};
 use tlv_skip::skip;
 
 // The context tags of sets and pairs, and how deep containers may stand in a value that is skipped.
@@ -18,133 +18,106 @@ impl Layout {
     pub const MAX_DEPTH: u8 = 16;
 }
 
-// A number below 2^32 that was read, or none so far.
+// A pair's attribute number, and the position behind the pair.
 #[derive(Clone, Copy)]
-pub enum Id {
-    Read(u32),
-    Unread,
-}
-
-// A pair's attribute number and the position behind it, or none.
-#[derive(Clone, Copy)]
-pub enum Pair {
-    Attribute(u32, usize),
-    NoPair,
+pub struct Pair {
+    pub attribute: u32,
+    pub next: usize,
 }
 
 // An array of pairs: the position of the first, how many there are, and the position behind the array's end.
 #[derive(Clone, Copy)]
-pub enum Array {
-    Pairs(usize, usize, usize),
-    NoArray,
+pub struct Pairs {
+    pub first: usize,
+    pub count: usize,
+    pub next: usize,
 }
 
 // Whether an element has a context tag of this number.
+#[tactic(auto, unfolding(tlv::specs::Members::tagged))]
 pub(crate) fn is_tagged(h: Element, tag: u8) -> bool
     ensures { result ≡ tagged tag h }
 {
-    if h.form == TagType::CONTEXT {
-        return h.tag == tag;
-    }
-    false
+    h.form == TagType::CONTEXT && h.tag == tag
 }
 
 // The position of the first member of an anonymous structure.
-pub(crate) fn structure_at(bytes: &[u8], at: usize) -> Next
+#[tactic(auto, unfolding(crate::specs::Pairs::structure_at))]
+pub(crate) fn structure_at(bytes: &[u8], at: usize) -> Option<usize>
     ensures { result ≡ structure_at bytes.now at }
 {
-    let Parsed::Whole(h) = element_at(bytes, at) else {
-        return Next::Broken;
-    };
-    if h.kind == ValueType::STRUCT {
-        if h.form == TagType::ANONYMOUS {
-            return Next::At(h.next);
-        }
+    let h = element_at(bytes, at)?;
+    if h.kind == ValueType::STRUCT && h.form == TagType::ANONYMOUS {
+        return Some(h.next);
     }
-    Next::Broken
+    None
 }
 
 // An unsigned number below 2^32 in any width, where none was read before.
-pub(crate) fn number_once(bytes: &[u8], at: usize, so: Id) -> Id
+pub(crate) fn number_once(bytes: &[u8], at: usize, so: Option<u32>) -> Option<u32>
     ensures { result ≡ number_once bytes.now at so }
 {
-    let Id::Unread = so else {
-        return Id::Unread;
-    };
-    let Number::Value(v) = number_at(bytes, at, ValueType::U64) else {
-        return Id::Unread;
-    };
-    if v < 0x1_0000_0000 {
-        return Id::Read(v as u32);
+    if so.is_some() {
+        return None;
     }
-    Id::Unread
-}
-
-// The pair that ends before a position, if its number was read.
-fn pair_of(so: Id, next: usize) -> Pair
-    ensures { result ≡ pair_of so next }
-{
-    let Id::Read(v) = so else {
-        return Pair::NoPair;
-    };
-    Pair::Attribute(v, next)
+    let v = number_at(bytes, at, ValueType::U64)?;
+    if v < 0x1_0000_0000 {
+        return Some(v as u32);
+    }
+    None
 }
 
 // A pair from its first member on.
-fn pair_from(bytes: &[u8], at: usize) -> Pair
+#[tactic(auto, using(crate::proofs::PairLaws::pair_laws))]
+fn pair_from(bytes: &[u8], at: usize) -> Option<Pair>
     ensures { result ≡ pair_from bytes.now at }
 {
     let mut i = at;
-    let mut so = Id::Unread;
+    let mut so = None;
     loop {
-        let Parsed::Whole(h) = element_at(bytes, i) else {
-            return Pair::NoPair;
-        };
+        let h = element_at(bytes, i)?;
         if h.kind == ValueType::END_CNT {
-            return pair_of(so, h.next);
+            return Some(Pair {
+                attribute: so?,
+                next: h.next,
+            });
         }
         if is_tagged(h, Layout::NUMBER) {
-            let Id::Read(v) = number_once(bytes, i, so) else {
-                return Pair::NoPair;
-            };
-            so = Id::Read(v);
+            so = Some(number_once(bytes, i, so)?);
             i = h.next;
         } else {
-            let Next::At(next) = skip(bytes, i, Layout::MAX_DEPTH) else {
-                return Pair::NoPair;
-            };
-            i = next;
+            i = skip(bytes, i, Layout::MAX_DEPTH)?;
         }
     }
 }
 
 // The pair at a position.
-pub(crate) fn pair_at(bytes: &[u8], at: usize) -> Pair
+#[tactic(auto, unfolding(crate::specs::Pairs::pair_at))]
+pub(crate) fn pair_at(bytes: &[u8], at: usize) -> Option<Pair>
     ensures { result ≡ pair_at bytes.now at }
 {
-    let Next::At(from) = structure_at(bytes, at) else {
-        return Pair::NoPair;
-    };
+    let from = structure_at(bytes, at)?;
     pair_from(bytes, from)
 }
 
 // The pairs from a position up to the array's end.
-pub(crate) fn pairs_at(bytes: &[u8], first: usize) -> Array
+#[tactic(auto, using(crate::proofs::PairLaws::array_laws))]
+pub(crate) fn pairs_at(bytes: &[u8], first: usize) -> Option<Pairs>
     ensures { result ≡ pairs_at bytes.now first }
 {
     let mut i = first;
     let mut count: usize = 0;
     loop {
-        let Parsed::Whole(h) = element_at(bytes, i) else {
-            return Array::NoArray;
-        };
+        let h = element_at(bytes, i)?;
         if h.kind == ValueType::END_CNT {
-            return Array::Pairs(first, count, h.next);
+            return Some(Pairs {
+                first,
+                count,
+                next: h.next,
+            });
         }
-        let Pair::Attribute(_, next) = pair_at(bytes, i) else {
-            return Array::NoArray;
-        };
+        let pair = pair_at(bytes, i)?;
         count += 1;
-        i = next;
+        i = pair.next;
     }
 }

@@ -2,8 +2,8 @@
 ghost use Rattle.std.specs.Prelude.{◌≡◌};
 ghost use Rattle.field_sets.specs.Reader.{start, set_at_cursor, next_item, total_of, sets_in};
 
-use crate::pairs::{Pair, pair_at};
-use crate::sets::{FieldSet, next_set};
+use crate::pairs::pair_at;
+use crate::sets::{NextSet, next_set};
 
 // Where the reader stands: `left` pairs are to come of the set that was yielded last, the next at `pair`, and behind them the next set
 // at `set`.
@@ -25,13 +25,6 @@ pub enum Item {
     Refused,
 }
 
-// How many pairs the bytes hold, or that they are no list of sets.
-#[derive(Clone, Copy)]
-pub enum Total {
-    Counted(usize),
-    Unreadable,
-}
-
 impl Cursor {
     // Before the first set.
     pub fn start() -> Cursor
@@ -45,19 +38,20 @@ impl Cursor {
     }
 
     // What the reader yields there.
+    #[tactic(auto, unfolding(crate::specs::Reader::next_item))]
     pub fn next(self, bytes: &[u8]) -> Item
         ensures { result ≡ next_item bytes.now self }
     {
         if self.left == 0 {
             return set_at_cursor(bytes, self);
         }
-        let Pair::Attribute(a, next) = pair_at(bytes, self.pair) else {
+        let Some(pair) = pair_at(bytes, self.pair) else {
             return Item::Refused;
         };
         Item::Attribute(
-            a,
+            pair.attribute,
             Cursor {
-                pair: next,
+                pair: pair.next,
                 left: self.left - 1,
                 set: self.set,
             },
@@ -70,37 +64,34 @@ fn set_at_cursor(bytes: &[u8], cursor: Cursor) -> Item
     ensures { result ≡ set_at_cursor bytes.now cursor }
 {
     match next_set(bytes, cursor.set) {
-        FieldSet::Set(cluster, first, count, next) => Item::Cluster(
-            cluster,
+        NextSet::Set(set) => Item::Cluster(
+            set.cluster,
             Cursor {
-                pair: first,
-                left: count,
-                set: next,
+                pair: set.first,
+                left: set.count,
+                set: set.next,
             },
         ),
-        FieldSet::End => Item::Done,
-        FieldSet::NoSet => Item::Refused,
+        NextSet::End => Item::Done,
+        NextSet::NoSet => Item::Refused,
     }
 }
 
-// How many pairs there are in all.
-pub fn count_pairs(bytes: &[u8]) -> Total
+// How many pairs there are in all; none where the bytes are no list of sets.
+#[tactic(auto, using(crate::proofs::ReaderLaws::total_laws))]
+pub fn count_pairs(bytes: &[u8]) -> Option<usize>
     ensures { result ≡ total_of (sets_in bytes.now) }
 {
     let mut at = 0;
     let mut total: usize = 0;
     loop {
         match next_set(bytes, at) {
-            FieldSet::Set(_, _, count, next) => {
-                total += count;
-                at = next;
+            NextSet::Set(set) => {
+                total += set.count;
+                at = set.next;
             }
-            FieldSet::End => {
-                return Total::Counted(total);
-            }
-            FieldSet::NoSet => {
-                return Total::Unreadable;
-            }
+            NextSet::End => return Some(total),
+            NextSet::NoSet => return None,
         }
     }
 }

@@ -2,105 +2,109 @@
 ghost use Rattle.std.specs.Prelude.{◌≡◌};
 ghost use Rattle.field_sets.specs.Sets.{array_once, whole_set, set_from, set_at, next_set};
 
-use crate::pairs::{Array, Id, Layout, is_tagged, number_once, pairs_at, structure_at};
-use tlv::{Element, Next, Parsed, ValueType, element_at};
+use crate::pairs::{Layout, Pairs, is_tagged, number_once, pairs_at, structure_at};
+use tlv::{Element, ValueType, element_at};
 use tlv_skip::skip;
 
-// A set's cluster number, the position of its first pair, how many pairs it has and the position behind it; the end of the list; or neither.
+// A set's cluster number, the position of its first pair, how many pairs it has and the position behind it.
 #[derive(Clone, Copy)]
-pub enum FieldSet {
-    Set(u32, usize, usize, usize),
+pub struct FieldSet {
+    pub cluster: u32,
+    pub first: usize,
+    pub count: usize,
+    pub next: usize,
+}
+
+// What stands at a position in the list of sets: a set, the list's end, or neither.
+#[derive(Clone, Copy)]
+pub enum NextSet {
+    Set(FieldSet),
     End,
     NoSet,
 }
 
 // An array of pairs, where none was read before.
-fn array_once(bytes: &[u8], h: Element, so: Array) -> Array
+fn array_once(bytes: &[u8], h: Element, so: Option<Pairs>) -> Option<Pairs>
     ensures { result ≡ array_once bytes.now h so }
 {
-    let Array::NoArray = so else {
-        return Array::NoArray;
-    };
+    if so.is_some() {
+        return None;
+    }
     if h.kind == ValueType::ARRAY {
         let first = h.next;
         return pairs_at(bytes, first);
     }
-    Array::NoArray
+    None
 }
 
 // The set that ends before a position, if its number and its array were read.
-fn whole_set(cluster: Id, array: Array, next: usize) -> FieldSet
+fn whole_set(cluster: Option<u32>, array: Option<Pairs>, next: usize) -> Option<FieldSet>
     ensures { result ≡ whole_set cluster array next }
 {
-    let Id::Read(c) = cluster else {
-        return FieldSet::NoSet;
-    };
-    let Array::Pairs(first, count, _) = array else {
-        return FieldSet::NoSet;
-    };
-    FieldSet::Set(c, first, count, next)
+    let cluster = cluster?;
+    let pairs = array?;
+    Some(FieldSet {
+        cluster,
+        first: pairs.first,
+        count: pairs.count,
+        next,
+    })
 }
 
 // A set from its first member on.
-fn set_from(bytes: &[u8], at: usize) -> FieldSet
+#[tactic(auto, using(crate::proofs::SetLaws::set_laws))]
+fn set_from(bytes: &[u8], at: usize) -> Option<FieldSet>
     ensures { result ≡ set_from bytes.now at }
 {
     let mut i = at;
-    let mut cluster = Id::Unread;
-    let mut array = Array::NoArray;
+    let mut cluster = None;
+    let mut array = None;
     loop {
-        let Parsed::Whole(h) = element_at(bytes, i) else {
-            return FieldSet::NoSet;
-        };
+        let h = element_at(bytes, i)?;
         if h.kind == ValueType::END_CNT {
             return whole_set(cluster, array, h.next);
         }
         if is_tagged(h, Layout::NUMBER) {
-            let Id::Read(c) = number_once(bytes, i, cluster) else {
-                return FieldSet::NoSet;
-            };
-            cluster = Id::Read(c);
+            cluster = Some(number_once(bytes, i, cluster)?);
             i = h.next;
         } else if is_tagged(h, Layout::PAIRS) {
-            let Array::Pairs(first, count, next) = array_once(bytes, h, array) else {
-                return FieldSet::NoSet;
-            };
-            array = Array::Pairs(first, count, next);
-            i = next;
+            let pairs = array_once(bytes, h, array)?;
+            array = Some(pairs);
+            i = pairs.next;
         } else {
-            let Next::At(next) = skip(bytes, i, Layout::MAX_DEPTH) else {
-                return FieldSet::NoSet;
-            };
-            i = next;
+            i = skip(bytes, i, Layout::MAX_DEPTH)?;
         }
     }
 }
 
 // The set at a position.
-fn set_at(bytes: &[u8], at: usize) -> FieldSet
+#[tactic(auto, unfolding(crate::specs::Sets::set_at))]
+fn set_at(bytes: &[u8], at: usize) -> Option<FieldSet>
     ensures { result ≡ set_at bytes.now at }
 {
-    let Next::At(from) = structure_at(bytes, at) else {
-        return FieldSet::NoSet;
-    };
+    let from = structure_at(bytes, at)?;
     set_from(bytes, from)
 }
 
 // The set at a position, or the end of the list: the bytes' own end, or no bytes at all.
-pub(crate) fn next_set(bytes: &[u8], at: usize) -> FieldSet
+#[tactic(auto, unfolding(crate::specs::Sets::next_set))]
+pub(crate) fn next_set(bytes: &[u8], at: usize) -> NextSet
     ensures { result ≡ next_set bytes.now at }
 {
-    if bytes.len() == 0 {
-        return FieldSet::End;
+    if bytes.is_empty() {
+        return NextSet::End;
     }
-    let Parsed::Whole(h) = element_at(bytes, at) else {
-        return FieldSet::NoSet;
+    let Some(h) = element_at(bytes, at) else {
+        return NextSet::NoSet;
     };
     if h.kind != ValueType::END_CNT {
-        return set_at(bytes, at);
+        return match set_at(bytes, at) {
+            Some(set) => NextSet::Set(set),
+            None => NextSet::NoSet,
+        };
     }
     if h.next == bytes.len() {
-        return FieldSet::End;
+        return NextSet::End;
     }
-    FieldSet::NoSet
+    NextSet::NoSet
 }

@@ -14,7 +14,7 @@ use Rattle.words.specs.declared.SceneKey.{SceneKey}
 use Rattle.slots.specs.Slots.{SceneEntry}
 use Rattle.records.specs.declared.Scope.TheVariants.{Scene, Group, Endpoint}
 use Rattle.commands.specs.declared.Applied.{Applied}
-use Rattle.reads.specs.declared.Transition.{Transition}
+use Rattle.reads.specs.Reads.{Transition}
 use Rattle.requests.specs.declared.Membership.TheVariants.{Yes}
 use Rattle.state.specs.Table.{Table, empty_table}
 use Rattle.state.specs.Sound.{sound}

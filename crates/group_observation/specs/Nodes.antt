@@ -3,7 +3,7 @@
 use Rattle.std.specs.Prelude.{ℕ, ◌^◌, ◌<◌, Bool, true, false, List, []}
 use Rattle.state.specs.Table.{Table}
 use Rattle.commands.specs.declared.Applied.{Applied}
-use Rattle.reads.specs.declared.Transition.{Transition}
+use Rattle.reads.specs.Reads.{Transition}
 use Rattle.reads.specs.declared.SceneRead.{SceneRead}
 use Rattle.reads.specs.Reads.{read_fabric_scene_info}
 use Rattle.groups.specs.Groups.{Groups, Joined, join_group}

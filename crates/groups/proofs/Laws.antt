@@ -2,7 +2,7 @@
 use Prim.Native.Nat.{ℕ, ◌≤◌, ◌<◌}
 use mathlib.Core.Path.{◌≡◌, refl, sym, ap}
 use mathlib.Core.Bool.{Bool, true, false, not}
-use mathlib.Core.List.{[], ◌∷◌}
+use mathlib.Core.List.{List, [], ◌∷◌}
 use native.Mathlib.Omega.{arith}
 use lib.Dec.{leb}
 use lib.ListN.{length, get_or}
@@ -14,7 +14,9 @@ use Rattle.words.specs.declared.GroupKey.{GroupKey}
 use Rattle.words.proofs.Tests.{and_true, and_false, all_head, all_tail}
 use Rattle.requests.specs.Requests.{first_refusal, or_next, refuse_if, fabric_gate}
 use Rattle.groups.specs.declared.GroupRead.{GroupRead}
-use Rattle.groups.specs.Groups.{Groups, group_sound, groups_sound, is_member, read_group, joined_of, ungrouped_gate, join_gate, with_member, join_new, join_group}
+use Rattle.groups.specs.declared.GroupsOutcome.{GroupsOutcome}
+use Rattle.groups.specs.declared.GroupsState.{GroupsState}
+use Rattle.groups.specs.Groups.{Groups, group_sound, groups_sound, is_member, read_group, groups_of, joined_of, ungrouped_gate, join_gate, with_member, join_new, join_group}
 
 -- ---- sound memberships
 
@@ -54,6 +56,10 @@ module _ (g : Groups) where
   sound-words h k = rw (le-leb _ _ h, le-leb _ _ k) (sym (and_true words_in_range))
 
 -- ---- what a read and a join answer
+
+-- a join's answer, from the outcome that it made
+pub answered : {o : GroupsOutcome} (words : List ℕ) (n : ℕ) (s : GroupsState) → o ≡ record { status = n; state = s } → joined_of o.status (groups_of o.state words) ≡ joined_of n (groups_of s words)
+answered words n s e = ap (λ (o : GroupsOutcome). joined_of o.status (groups_of o.state words)) e
 
 abbrev read : ℕ → Bool → GroupRead
 read n b = record { status = n; held = b }

@@ -1,11 +1,12 @@
 // The memberships that are held beside the scenes: fabric, endpoint and group, at most 256, as words in a lent slice of their own.
 #![tactic(auto)]
 
-ghost use Rattle.std.specs.Prelude.{◌≡◌, ◌≤◌, length};
+ghost use Rattle.std.specs.Prelude.{◌≡◌, ◌≤◌, length, false};
+ghost use Rattle.words.specs.Refusals.{number_of, status_of};
 ghost use Rattle.groups.specs.Groups.{groups_of, with_held, group_word, group_sound, groups_sound, is_member, member_of, read_group, joined_of, join_gate, join_group, retain_groups};
 
 use requests::Membership;
-use words::{Fault, GroupKey, KeyRange, KeyWord, Limits, SceneId, SceneKey, Status};
+use words::{GroupKey, KeyRange, KeyWord, Limits, Refusal, SceneId, SceneKey, Status};
 
 // How many memberships are held.
 #[repr(C)]
@@ -28,6 +29,33 @@ pub struct GroupsOutcome {
 pub struct GroupRead {
     pub status: u8,
     pub held: bool,
+}
+
+impl GroupsOutcome {
+    fn answered(status: u8, state: GroupsState) -> GroupsOutcome
+        ensures { result ≡ record { status = status; state = state } }
+    {
+        GroupsOutcome { status, state }
+    }
+
+    // A refusal: the head stays.
+    fn refused(refusal: Refusal, state: GroupsState) -> GroupsOutcome
+        ensures { result ≡ record { status = number_of refusal; state = state } }
+    {
+        GroupsOutcome::answered(u8::from(refusal), state)
+    }
+}
+
+impl GroupRead {
+    // A refusal says nothing of what is held.
+    fn refused(refusal: Refusal) -> GroupRead
+        ensures { result ≡ record { status = number_of refusal; held = false } }
+    {
+        GroupRead {
+            status: u8::from(refusal),
+            held: false,
+        }
+    }
 }
 
 // The word of a membership: the key word of its group, with scene 0.
@@ -60,7 +88,8 @@ impl GroupsState {
         GroupsState { held: 0 }
     }
 
-    // Whether the memberships are sound.
+    // Whether the memberships are sound. Without a branch: `all` ends at the first that is not, but then the words are taken one by one, in twice
+    // the time.
     pub fn is_sound(self, words: &[u64]) -> bool
         ensures { result ≡ groups_sound (groups_of self words.now) }
     {
@@ -71,25 +100,22 @@ impl GroupsState {
             return false;
         }
         let mut sound = true;
-        let mut i = 0;
-        while i < self.held {
-            sound = sound & is_word(words[i]);
-            i += 1;
+        for word in &words[..self.held] {
+            sound = sound & is_word(*word);
         }
         sound
     }
 
-    // Whether a membership is held: no for group 0.
+    // Whether a membership is held: no for group 0. Without a branch: `contains` takes 199 ns in place of 48 where 256 are held, 13 in place of 7
+    // where 16 are.
     pub fn is_member(self, words: &[u64], key: GroupKey) -> bool
         requires { self.held ≤ length words.now }
         ensures { result ≡ is_member key (groups_of self words.now) }
     {
         let wanted = word(key);
         let mut any = false;
-        let mut i = 0;
-        while i < self.held {
-            any = any | (words[i] == wanted);
-            i += 1;
+        for word in &words[..self.held] {
+            any = any | (*word == wanted);
         }
         (key.group != 0) & any
     }
@@ -110,17 +136,10 @@ impl GroupsState {
         ensures { result ≡ read_group key (groups_of self words.now) }
     {
         if !self.is_sound(words) {
-            return GroupRead {
-                status: Fault::UNSOUND,
-                held: false,
-            };
+            return GroupRead::refused(Refusal::Unsound);
         }
-        let gate = requests::fabric_gate(key.fabric);
-        if gate != Status::SUCCESS {
-            return GroupRead {
-                status: gate,
-                held: false,
-            };
+        if let Err(refusal) = requests::fabric_gate(key.fabric) {
+            return GroupRead::refused(refusal);
         }
         GroupRead {
             status: Status::SUCCESS,
@@ -129,51 +148,37 @@ impl GroupsState {
     }
 
     // The tests of a join.
-    fn join_gate(self, words: &[u64], key: GroupKey) -> u8
-        ensures { result ≡ join_gate key (groups_of self words.now) }
+    #[tactic(auto, using(requests::proofs::Laws::first_refusals), unfolding(crate::specs::Groups::join_gate))]
+    fn join_gate(self, words: &[u64], key: GroupKey) -> Result<(), Refusal>
+        ensures { status_of result ≡ join_gate key (groups_of self words.now) }
     {
         if !self.is_sound(words) {
-            return Fault::UNSOUND;
+            return Err(Refusal::Unsound);
         }
-        if key.fabric == 0 {
-            return Fault::NO_FABRIC;
-        }
+        requests::fabric_gate(key.fabric)?;
         if key.group == 0 {
-            return Status::SC_CONSTRAINT_ERROR;
+            return Err(Refusal::ConstraintError);
         }
-        Status::SUCCESS
+        Ok(())
     }
 
     // Takes a membership up behind the last one, unless it is held.
     pub fn join(mut self, words: &mut [u64], key: GroupKey) -> GroupsOutcome
         ensures { joined_of result.status (groups_of result.state words.new) ≡ join_group key (groups_of self words.old) }
     {
-        let gate = self.join_gate(words, key);
-        if gate != Status::SUCCESS {
-            return GroupsOutcome {
-                status: gate,
-                state: self,
-            };
+        if let Err(refusal) = self.join_gate(words, key) {
+            return GroupsOutcome::refused(refusal, self);
         }
         if self.is_member(words, key) {
-            return GroupsOutcome {
-                status: Status::SUCCESS,
-                state: self,
-            };
+            return GroupsOutcome::answered(Status::SUCCESS, self);
         }
         if self.held == Limits::MAX_MEMBERSHIPS {
-            return GroupsOutcome {
-                status: Fault::MEMBERSHIPS_FULL,
-                state: self,
-            };
+            return GroupsOutcome::refused(Refusal::MembershipsFull, self);
         }
         let held = self.held;
         words[held] = word(key);
         self.held = held + 1;
-        GroupsOutcome {
-            status: Status::SUCCESS,
-            state: self,
-        }
+        GroupsOutcome::answered(Status::SUCCESS, self)
     }
 
     // Drops every membership in a range: the others move to the front, in order.
@@ -181,15 +186,12 @@ impl GroupsState {
         requires { self.held ≤ length words.old }
         ensures { groups_of result words.new ≡ retain_groups range (groups_of self words.old) }
     {
-        let mut i = 0;
+        let held = self.held;
         let mut j = 0;
-        while i < self.held {
+        for i in 0..held {
             let word = words[i];
-            if range.holds(word) {
-                i += 1;
-            } else {
+            if !range.holds(word) {
                 words[j] = word;
-                i += 1;
                 j += 1;
             }
         }

@@ -98,7 +98,7 @@ pub extern "C" fn scenes_add(
         records,
         key,
         time,
-        Membership::of_number(member),
+        Membership::from(member),
         pairs,
         ext,
     )
@@ -126,7 +126,7 @@ pub extern "C" fn scenes_store(
         fields,
         records,
         key,
-        Membership::of_number(member),
+        Membership::from(member),
         captured,
     )
 }
@@ -145,14 +145,7 @@ pub extern "C" fn scenes_view(
     ensures { let table = table_of state keys.now times.now fields.now records.now in
         result ≡ view_scene key (membership_of member) table }
 {
-    ScenesHandler { state }.view_scene(
-        keys,
-        times,
-        fields,
-        records,
-        key,
-        Membership::of_number(member),
-    )
+    ScenesHandler { state }.view_scene(keys, times, fields, records, key, Membership::from(member))
 }
 
 // What a recall applies: the time, by the override where `given` is not 0, and the scene's position.
@@ -177,7 +170,7 @@ pub extern "C" fn scenes_recall_lookup(
         fields,
         records,
         key,
-        Membership::of_number(member),
+        Membership::from(member),
         transition(given, time),
     )
 }
@@ -204,7 +197,7 @@ pub extern "C" fn scenes_recall(
         fields,
         records,
         key,
-        Membership::of_number(member),
+        Membership::from(member),
         application(applied),
     )
 }
@@ -230,7 +223,7 @@ pub extern "C" fn scenes_remove(
         fields,
         records,
         key,
-        Membership::of_number(member),
+        Membership::from(member),
     )
 }
 
@@ -255,7 +248,7 @@ pub extern "C" fn scenes_remove_all(
         fields,
         records,
         key,
-        Membership::of_number(member),
+        Membership::from(member),
     )
 }
 
@@ -281,8 +274,8 @@ pub extern "C" fn scenes_copy(
         fields,
         records,
         request,
-        Membership::of_number(source),
-        Membership::of_number(target),
+        Membership::from(source),
+        Membership::from(target),
     )
 }
 
@@ -308,7 +301,7 @@ pub extern "C" fn scenes_get_membership(
         records,
         ids,
         key,
-        Membership::of_number(member),
+        Membership::from(member),
     )
 }
 

@@ -95,7 +95,7 @@ pub extern "C" fn scenes_add_read(
         records,
         key,
         time,
-        Membership::of_number(member),
+        Membership::from(member),
         pairs,
         ext,
     )

@@ -38,7 +38,7 @@ pub extern "C" fn scenes_add_read_unchecked(
         records,
         key,
         time,
-        Membership::of_number(member),
+        Membership::from(member),
         pairs,
         ext,
     )

@@ -8,7 +8,6 @@ ghost use Rattle.host_numbers.specs.Numbers.{applied_of, transition_of, truth_of
 ghost use Rattle.host_numbers.specs.Fields.{place_of};
 
 use commands::Applied;
-use reads::Transition;
 use words::Slot;
 
 // Where field bytes lie in the lent field slice.
@@ -44,13 +43,13 @@ pub fn application(answer: u8) -> Applied
 }
 
 // The time of a recall: the scene's own where `given` is 0, else the override.
-pub fn transition(given: u8, time: u32) -> Transition
+pub fn transition(given: u8, time: u32) -> Option<u32>
     ensures { result ≡ transition_of given time }
 {
     if given == 0 {
-        return Transition::Stored;
+        return None;
     }
-    Transition::Given(time)
+    Some(time)
 }
 
 // 0 is no, any other number is yes: a byte that a host wrote need not be a truth value.

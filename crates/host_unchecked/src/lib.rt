@@ -55,7 +55,7 @@ pub extern "C" fn scenes_add_unchecked(
         records,
         key,
         time,
-        Membership::of_number(member),
+        Membership::from(member),
         pairs,
         ext,
     )
@@ -84,7 +84,7 @@ pub extern "C" fn scenes_store_unchecked(
         fields,
         records,
         key,
-        Membership::of_number(member),
+        Membership::from(member),
         captured,
     )
 }
@@ -104,14 +104,7 @@ pub extern "C" fn scenes_view_unchecked(
     ensures { let table = table_of state keys.now times.now fields.now records.now in
         result ≡ view_scene key (membership_of member) table }
 {
-    Reads { state }.view_scene(
-        keys,
-        times,
-        fields,
-        records,
-        key,
-        Membership::of_number(member),
-    )
+    Reads { state }.view_scene(keys, times, fields, records, key, Membership::from(member))
 }
 
 // What a recall applies: the time, by the override where `given` is not 0, and the scene's position.
@@ -137,7 +130,7 @@ pub extern "C" fn scenes_recall_lookup_unchecked(
         fields,
         records,
         key,
-        Membership::of_number(member),
+        Membership::from(member),
         transition(given, time),
     )
 }
@@ -165,7 +158,7 @@ pub extern "C" fn scenes_recall_unchecked(
         fields,
         records,
         key,
-        Membership::of_number(member),
+        Membership::from(member),
         application(applied),
     )
 }
@@ -186,14 +179,7 @@ pub extern "C" fn scenes_remove_unchecked(
         let after = table_of result.state keys.new times.new fields.new records.new in
         result_of result.status result.save after ≡ remove_scene key (membership_of member) before }
 {
-    Commands { state }.remove_scene(
-        keys,
-        times,
-        fields,
-        records,
-        key,
-        Membership::of_number(member),
-    )
+    Commands { state }.remove_scene(keys, times, fields, records, key, Membership::from(member))
 }
 
 // Removes all scenes of a group on an endpoint.
@@ -218,7 +204,7 @@ pub extern "C" fn scenes_remove_all_unchecked(
         fields,
         records,
         key,
-        Membership::of_number(member),
+        Membership::from(member),
     )
 }
 
@@ -245,8 +231,8 @@ pub extern "C" fn scenes_copy_unchecked(
         fields,
         records,
         request,
-        Membership::of_number(source),
-        Membership::of_number(target),
+        Membership::from(source),
+        Membership::from(target),
     )
 }
 
@@ -273,7 +259,7 @@ pub extern "C" fn scenes_get_membership_unchecked(
         records,
         ids,
         key,
-        Membership::of_number(member),
+        Membership::from(member),
     )
 }
 

@@ -1,6 +1,5 @@
 -- Document 02, Q-1 and Q-3: images that are loaded and saved, as one table of rows. Images are written out as bytes, in parts that have a name.
-use Rattle.std.specs.Prelude.{ℕ, ◌+◌, ◌-◌, ◌^◌, ◌≡◌, Bool, true, false, ◌&&◌, List, [], ◌∷◌, ◌++◌, map, eqb, replicate}
-use Rattle.std.proofs.Math.Option.{Option, none, some}
+use Rattle.std.specs.Prelude.{ℕ, ◌+◌, ◌-◌, ◌^◌, ◌≡◌, Bool, true, false, ◌&&◌, List, [], ◌∷◌, ◌++◌, map, eqb, replicate, Option, Some, None}
 use Rattle.words.specs.Constants.{success, unsound, buffer_too_short, bad_image, clashing_image, global_scene, reserved_scene}
 use Rattle.words.specs.Words.{key_of}
 use Rattle.slots.specs.Slots.{SceneEntry}
@@ -201,8 +200,8 @@ same_bytes (x ∷ xs) [] = false
 same_bytes (x ∷ xs) (y ∷ ys) = eqb x y && same_bytes xs ys
 
 abbrev pub encoded : Option Image → List ℕ
-encoded none = []
-encoded (some i) = image_bytes i.entries i.records
+encoded None = []
+encoded (Some i) = image_bytes i.entries i.records
 
 abbrev pub rewritten : List ℕ → Outcome
 rewritten bytes =

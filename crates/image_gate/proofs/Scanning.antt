@@ -3,18 +3,17 @@ use Prim.Native.Nat.{ℕ, zero, suc, ◌+◌, ◌≤◌, ◌<◌}
 use mathlib.Core.Path.{◌≡◌, refl, sym, ap, ap₂, ◌∙◌}
 use mathlib.Core.Bool.{Bool, false, cond, ◌||◌}
 use mathlib.Core.List.{List, [], ◌∷◌, ◌++◌, append_assoc, append-nil}
-use mathlib.Core.Option.{Option, none, some}
 use native.Mathlib.Numerals.{add-one}
 use native.Mathlib.Omega.{arith}
 use lib.Dec.{eqb}
 use lib.ListN.{length, take, get_or, set, length-set, length-append}
 use lib.Seq.{length-take-le, take-suc-set, get_or-set_other, get_or-take}
 use borrow.Author.Tests.{le-leb, lt-leb}
+use Rattle.std.proofs.Common.{Option, Some, None}
 use Rattle.words.specs.Constants.{success, bad_image, clashing_image}
 use Rattle.words.specs.Words.{fabric_of, endpoint_of, key_of_record}
 use Rattle.words.specs.Below.{any_below, first_below, or_else}
-use Rattle.words.specs.declared.Found.{Found}
-use Rattle.words.specs.declared.Found.TheVariants.{At, Nothing}
+use Rattle.std.specs.Prelude.{Some, None, is_some}
 use Rattle.slots.specs.Slots.{first_key}
 use Rattle.records.specs.Records.{first_owned}
 use Rattle.tlv.specs.declared.elements.Element.{Element}
@@ -22,8 +21,8 @@ use Rattle.tlv.specs.declared.members.Step.TheVariants.{Member, End, Damaged}
 use Rattle.tlv.specs.Members.{member_at}
 use Rattle.image_reader.specs.Image.{prepended, members_from}
 use Rattle.image_reader.proofs.Listing.{members_end, members_damaged, members_none, members_more}
-use Rattle.image_gate.specs.Verdict.{is_found, barred, key_clashes, record_clashes}
-use Rattle.image_gate.specs.Deciding.{judged}
+use Rattle.image_gate.specs.Verdict.{barred, key_clashes, record_clashes}
+use Rattle.image_gate.specs.Deciding.{Local, judged}
 
 -- ---- tests that look at no word past their position
 
@@ -36,41 +35,38 @@ first_same : (p q : ℕ → Bool) (n : ℕ) → ((i : ℕ) → i < n → p i ≡
 unfolding first_below
 first_same p q zero h = refl
 first_same p q (suc n) h =
-    ap₂ or_else (first_same p q n (λ i l. h i (omega arith))) (ap (λ (b : Bool). cond b (At n) Nothing) (h n (omega arith)))
-
-abbrev pub Local : (List ℕ → ℕ → Bool) → Type 0
-Local test = (xs ys : List ℕ) (i : ℕ) → ((j : ℕ) → j ≤ i → get_or xs j 0 ≡ get_or ys j 0) → test xs i ≡ test ys i
+    ap₂ or_else (first_same p q n (λ i l. h i (omega arith))) (ap (λ (b : Bool). cond b (Some n) None) (h n (omega arith)))
 
 pub keys_local : Local key_clashes
 unfolding first_key
 keys_local xs ys i same =
-    ap (λ (key : ℕ). barred key || is_found (first_key xs i key)) (same i (omega arith))
-    ∙ ap (λ (f : Found). barred (get_or ys i 0) || is_found f)
-    (first_same (λ j. eqb (get_or xs j 0) (get_or ys i 0)) (λ j. eqb (get_or ys j 0) (get_or ys i 0)) i
-    (λ j l. ap (λ (key : ℕ). eqb key (get_or ys i 0)) (same j (omega arith))))
+    ap (λ (key : ℕ). barred key || is_some (first_key xs i key)) (same i (omega arith))
+    ∙ ap (λ (b : Bool). barred (get_or ys i 0) || b)
+    (ap is_some (first_same (λ j. eqb (get_or xs j 0) (get_or ys i 0)) (λ j. eqb (get_or ys j 0) (get_or ys i 0)) i
+    (λ j l. ap (λ (key : ℕ). eqb key (get_or ys i 0)) (same j (omega arith)))))
 
 pub records_local : Local record_clashes
 unfolding first_owned
 records_local xs ys i same =
-    ap (λ (word : ℕ). barred (key_of_record word) || is_found (first_owned xs i (fabric_of (key_of_record word)) (endpoint_of (key_of_record word)))) (same i (omega arith))
-    ∙ ap (λ (f : Found). barred (key_of_record (get_or ys i 0)) || is_found f)
-    (first_same (λ j. eqb (fabric_of (key_of_record (get_or xs j 0))) (fabric_of (key_of_record (get_or ys i 0))))
+    ap (λ (word : ℕ). barred (key_of_record word) || is_some (first_owned xs i (fabric_of (key_of_record word)) (endpoint_of (key_of_record word)))) (same i (omega arith))
+    ∙ ap (λ (b : Bool). barred (key_of_record (get_or ys i 0)) || b)
+    (ap is_some (first_same (λ j. eqb (fabric_of (key_of_record (get_or xs j 0))) (fabric_of (key_of_record (get_or ys i 0))))
     (λ j. eqb (fabric_of (key_of_record (get_or ys j 0))) (fabric_of (key_of_record (get_or ys i 0)))) i
-    (λ j l. ap (λ (word : ℕ). eqb (fabric_of (key_of_record word)) (fabric_of (key_of_record (get_or ys i 0)))) (same j (omega arith))))
+    (λ j l. ap (λ (word : ℕ). eqb (fabric_of (key_of_record word)) (fabric_of (key_of_record (get_or ys i 0)))) (same j (omega arith)))))
 
 -- ---- words in front of those that are still to come
 
 abbrev pub behind : List ℕ → Option (List ℕ) → Option (List ℕ)
-behind xs none = none
-behind xs (some ys) = some (xs ++ ys)
+behind xs None = None
+behind xs (Some ys) = Some (xs ++ ys)
 
 behind-nothing : (r : Option (List ℕ)) → behind [] r ≡ r
-behind-nothing none = refl
-behind-nothing (some ys) = refl
+behind-nothing None = refl
+behind-nothing (Some ys) = refl
 
-behind_more : (xs : List ℕ) (x : ℕ) (r : Option (List ℕ)) → behind (xs ++ (x ∷ [])) r ≡ behind xs (prepended (some x) r)
-behind_more xs x none = refl
-behind_more xs x (some ys) = ap some (append_assoc xs (x ∷ []) ys)
+behind_more : (xs : List ℕ) (x : ℕ) (r : Option (List ℕ)) → behind (xs ++ (x ∷ [])) r ≡ behind xs (prepended (Some x) r)
+behind_more xs x None = refl
+behind_more xs x (Some ys) = ap Some (append_assoc xs (x ∷ []) ys)
 
 -- the first n words of `seen` were read, and the members from `at` on are still to come
 module _ (read : ℕ → Option ℕ) (b : List ℕ) (first : ℕ) where
@@ -81,17 +77,17 @@ module _ (read : ℕ → Option ℕ) (b : List ℕ) (first : ℕ) where
   gather_start seen = behind-nothing (members_from read b first)
 
   module _ (seen : List ℕ) (n at : ℕ) (g : Gathered seen n at) where
-    pub gather_end : member_at b at ≡ End → some (take n seen) ≡ members_from read b first
-    gather_end e = ap some (sym (append-nil (take n seen))) ∙ ap (behind (take n seen)) (sym (members_end read b at e)) ∙ g
+    pub gather_end : member_at b at ≡ End → Some (take n seen) ≡ members_from read b first
+    gather_end e = ap Some (sym (append-nil (take n seen))) ∙ ap (behind (take n seen)) (sym (members_end read b at e)) ∙ g
 
-    pub gather_damaged : member_at b at ≡ Damaged → none ≡ members_from read b first
+    pub gather_damaged : member_at b at ≡ Damaged → None ≡ members_from read b first
     gather_damaged e = ap (behind (take n seen)) (sym (members_damaged read b at e)) ∙ g
 
     module _ (h : Element) (next : ℕ) (m : member_at b at ≡ Member h next) where
-      pub gather_unread : read at ≡ none → none ≡ members_from read b first
+      pub gather_unread : read at ≡ None → None ≡ members_from read b first
       gather_unread e = ap (behind (take n seen)) (sym (members_none read b at h next m e)) ∙ g
 
-      module _ (word : ℕ) (e : read at ≡ some word) where
+      module _ (word : ℕ) (e : read at ≡ Some word) where
         pub gather_one : behind (take n seen ++ (word ∷ [])) (members_from read b next) ≡ members_from read b first
         gather_one =
             behind_more (take n seen) word (members_from read b next)
@@ -106,23 +102,23 @@ module _ (read : ℕ → Option ℕ) (b : List ℕ) (first : ℕ) where
 -- ---- the verdict of a scan
 
 module _ (test : List ℕ → ℕ → Bool) (most : ℕ) where
-  pub judged_none : bad_image ≡ judged test most none
+  pub judged_none : None ≡ judged test most None
   unfolding judged
   judged_none = refl
 
-  judged-long : (xs : List ℕ) (r : Option (List ℕ)) → most < length xs → bad_image ≡ judged test most (behind xs r)
+  judged-long : (xs : List ℕ) (r : Option (List ℕ)) → most < length xs → None ≡ judged test most (behind xs r)
   unfolding judged
-  judged-long xs none l = refl
-  judged-long xs (some ys) l = rw (lt-leb (length (xs ++ ys)) most (omega (arith, length-append xs ys)))
+  judged-long xs None l = refl
+  judged-long xs (Some ys) l = rw (lt-leb (length (xs ++ ys)) most (omega (arith, length-append xs ys)))
 
   module _ (look : Local test) where
     pub judged_some : (seen : List ℕ) (n : ℕ) (clash : Bool) → n ≤ most → n ≤ length seen → clash ≡ any_below (test seen) n
-        → cond clash clashing_image success ≡ judged test most (some (take n seen))
+        → Some clash ≡ judged test most (Some (take n seen))
     unfolding judged
     judged_some seen n clash l m e =
         let q : length (take n seen) ≡ n = length-take-le n seen m in
         rw (q, le-leb n most l)
-        (ap (λ (c : Bool). cond c clashing_image success)
+        (ap Some
         (e ∙ any_same (test seen) (test (take n seen)) n (λ i h. look seen (take n seen) i (λ j k. sym (get_or-take n seen j 0 (omega arith))))))
 
     -- a turn of the loop: one more word, and whether it clashes
@@ -163,21 +159,21 @@ module _ {read : ℕ → Option ℕ} {b : List ℕ} {first : ℕ} {test : List �
   pub turn_room : n < most → (word : ℕ) → n < length (set seen n word)
   turn_room l word = omega (arith, length-set seen n word)
 
-  pub turn_end : member_at b at ≡ End → cond clash clashing_image success ≡ judged test most (members_from read b first)
+  pub turn_end : member_at b at ≡ End → Some clash ≡ judged test most (members_from read b first)
   turn_end e =
       judged_some test most look seen n clash t.few (omega arith) t.told
       ∙ ap (judged test most) (gather_end read b first seen n at t.gathered e)
 
-  pub turn_damaged : member_at b at ≡ Damaged → bad_image ≡ judged test most (members_from read b first)
+  pub turn_damaged : member_at b at ≡ Damaged → None ≡ judged test most (members_from read b first)
   turn_damaged e = judged_none test most ∙ ap (judged test most) (gather_damaged read b first seen n at t.gathered e)
 
   module _ (h : Element) (next : ℕ) (m : member_at b at ≡ Member h next) where
-    pub turn_unread : read at ≡ none → bad_image ≡ judged test most (members_from read b first)
+    pub turn_unread : read at ≡ None → None ≡ judged test most (members_from read b first)
     turn_unread e = judged_none test most ∙ ap (judged test most) (gather_unread read b first seen n at t.gathered h next m e)
 
-    module _ (word : ℕ) (e : read at ≡ some word) where
+    module _ (word : ℕ) (e : read at ≡ Some word) where
       -- a member more than there may be
-      pub turn_full : most ≤ n → bad_image ≡ judged test most (members_from read b first)
+      pub turn_full : most ≤ n → None ≡ judged test most (members_from read b first)
       turn_full l =
           let q : length (take n seen) ≡ n = length-take-le n seen (omega arith) in
           judged-long test most (take n seen ++ (word ∷ [])) (members_from read b next) (omega (arith, length-append (take n seen) (word ∷ [])))

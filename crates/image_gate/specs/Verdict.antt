@@ -1,11 +1,8 @@
 -- What refuses an image, 9 and then 10: document 02, Q-1.
-use Rattle.std.specs.Prelude.{ℕ, Bool, true, false, cond, ◌||◌, List, map, length, get_or}
-use Rattle.std.proofs.Math.Option.{Option, none, some}
+use Rattle.std.specs.Prelude.{ℕ, Bool, true, false, cond, ◌||◌, List, map, length, get_or, is_some, Option, Some, None}
 use Rattle.words.specs.Constants.{success, bad_image, clashing_image}
 use Rattle.words.specs.Words.{fabric_of, endpoint_of, scene_of, key_of_record}
 use Rattle.words.specs.Below.{any_below}
-use Rattle.words.specs.declared.Found.{Found}
-use Rattle.words.specs.declared.Found.TheVariants.{At, Nothing}
 use Rattle.slots.specs.Slots.{SceneEntry, first_key}
 use Rattle.records.specs.Records.{first_owned}
 use Rattle.requests.specs.Requests.{reserved}
@@ -13,17 +10,13 @@ use Rattle.image_reader.specs.Image.{Image, image_in}
 
 -- ---- 10
 
-abbrev pub is_found : Found → Bool
-is_found (At p) = true
-is_found Nothing = false
-
 -- scene 0 or 255
 abbrev pub barred : ℕ → Bool
 barred key = reserved (scene_of key)
 
 -- the key word at a position has such a scene, or stands before it too
 abbrev pub key_clashes : List ℕ → ℕ → Bool
-key_clashes keys i = barred (get_or keys i 0) || is_found (first_key keys i (get_or keys i 0))
+key_clashes keys i = barred (get_or keys i 0) || is_some (first_key keys i (get_or keys i 0))
 
 unfoldable pub keys_clash : List ℕ → Bool
 keys_clash keys = any_below (key_clashes keys) (length keys)
@@ -32,7 +25,7 @@ keys_clash keys = any_below (key_clashes keys) (length keys)
 abbrev pub record_clashes : List ℕ → ℕ → Bool
 record_clashes words i =
     let key : ℕ = key_of_record (get_or words i 0) in
-    barred key || is_found (first_owned words i (fabric_of key) (endpoint_of key))
+    barred key || is_some (first_owned words i (fabric_of key) (endpoint_of key))
 
 unfoldable pub records_clash : List ℕ → Bool
 records_clash words = any_below (record_clashes words) (length words)
@@ -46,8 +39,8 @@ clashes i = keys_clash (keys_of i) || records_clash i.records
 
 -- 9 for bytes that `from_tlv` refuses, then 10
 unfoldable pub verdict : Option Image → ℕ
-verdict none = bad_image
-verdict (some i) = cond (clashes i) clashing_image success
+verdict None = bad_image
+verdict (Some i) = cond (clashes i) clashing_image success
 
 abbrev pub image_gate : ℕ → List ℕ → ℕ
 image_gate size bytes = verdict (image_in size bytes)

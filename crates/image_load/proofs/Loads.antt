@@ -3,9 +3,9 @@ use Prim.Native.Nat.{ℕ, ◌≤◌}
 use mathlib.Core.Path.{◌≡◌, refl, sym, ap, ◌∙◌}
 use mathlib.Core.Bool.{true, false}
 use mathlib.Core.List.{List, [], ◌∷◌}
-use mathlib.Core.Option.{Option, none, some, none-ne-some}
 use native.Mathlib.Omega.{arith}
 use lib.ListN.{length}
+use Rattle.std.proofs.Common.{Option, Some, None}
 use Rattle.words.specs.Constants.{success, unsound, bad_image}
 use Rattle.slots.specs.Slots.{Slots}
 use Rattle.state.specs.declared.ScenesState.{ScenesState}
@@ -17,8 +17,8 @@ use Rattle.state.proofs.Guard.{result_in, refuses, refuses-outcome, unsound-outc
 use Rattle.lifecycle.specs.Lifecycle.{startup}
 use Rattle.tlv.specs.Elements.{whole, element_at}
 use Rattle.tlv.specs.Values.{inside_at}
-use Rattle.image_reader.specs.declared.Arrays.TheVariants.{Both, NoArrays}
-use Rattle.image_reader.specs.Image.{Image, entries_from, records_from, arrays_in, image_in}
+use Rattle.std.proofs.lemmas.Option.{none-some}
+use Rattle.image_reader.specs.Image.{Image, entries_from, records_from, arrays_of, arrays_in, image_in}
 use Rattle.image_gate.specs.Verdict.{verdict, image_gate}
 use Rattle.image_load.specs.Loading.{restored, load_tlv, load_image, ByLength}
 use Rattle.image_gate.specs.Deciding.{image_from, image_with, listed}
@@ -37,12 +37,12 @@ some_there [] t l = absurd (omega (arith, l))
 some_there (x ∷ b) t l = refl
 
 -- no bytes are no image, which 9 refuses
-nothing_read : (size : ℕ) → image_in size [] ≡ none
+nothing_read : (size : ℕ) → image_in size [] ≡ None
 unfolding whole element_at inside_at arrays_in image_in
 nothing_read size = refl
 
-pub read_some : (size : ℕ) (b : List ℕ) (i : Image) → image_in size b ≡ some i → 1 ≤ length b
-read_some size [] i e = absurd (none-ne-some _ (sym (nothing_read size) ∙ e))
+pub read_some : (size : ℕ) (b : List ℕ) (i : Image) → image_in size b ≡ Some i → 1 ≤ length b
+read_some size [] i e = absurd (none-some _ (sym (nothing_read size) ∙ e))
 read_some size (x ∷ b) i e = omega arith
 
 none_refused : (t : Table) → sound t ≡ true → load_tlv [] t ≡ refused t bad_image
@@ -65,15 +65,15 @@ load-unsound t [] s o q = unsound-outcome t s _ o _ q
 load-unsound t (x ∷ b) s o q = unsound-outcome t s _ o _ q
 
 module _ (t : Table) (b : List ℕ) (s : sound t ≡ true) where
-  no_image : arrays_in b ≡ NoArrays → bad_image ≡ image_gate t.state.size b
+  no_image : arrays_in b ≡ None → bad_image ≡ image_gate t.state.size b
   unfolding image_in verdict
   no_image e = rw e
 
-  pub load-unread : arrays_in b ≡ NoArrays → (o : Outcome) → o ≡ answered bad_image t.state → result_in t.slots t.records o ≡ load_tlv b t
+  pub load-unread : arrays_in b ≡ None → (o : Outcome) → o ≡ answered bad_image t.state → result_in t.slots t.records o ≡ load_tlv b t
   unfolding load_tlv
   load-unread e o q = refuses-outcome t s bad_image _ (no_image e) o _ q (λ z. let w : ⊥ = omega arith in w)
 
-  module _ (first second : ℕ) (e : arrays_in b ≡ Both first second) (g : ℕ) (d : g ≡ verdict (image_from t.state.size b first second)) where
+  module _ (first second : ℕ) (e : arrays_in b ≡ Some (arrays_of first second)) (g : ℕ) (d : g ≡ verdict (image_from t.state.size b first second)) where
     same-image : image_from t.state.size b first second ≡ image_in t.state.size b
     unfolding image_in
     same-image = rw e
@@ -90,7 +90,7 @@ module _ (t : Table) (b : List ℕ) (s : sound t ≡ true) where
       load-passed = passed t.state.size (entries_from b first) (records_from b second) (sym d ∙ z)
 
       pub load-done : (state : ScenesState) (slots : Slots) (records : List ℕ)
-          → record { state = state; slots = slots; records = records } ≡ restored (some (image_with (listed (entries_from b first)) (listed (records_from b second)))) t
+          → record { state = state; slots = slots; records = records } ≡ restored (Some (image_with (listed (entries_from b first)) (listed (records_from b second)))) t
           → (o : Outcome) → o ≡ answered success state → result_in slots records o ≡ load_tlv b t
       unfolding load_tlv
       load-done state slots records r o q =

@@ -3,10 +3,10 @@ use Prim.Native.Nat.{ℕ, suc, ◌+◌, ◌-◌, ◌*◌, ◌≤◌, ◌<◌}
 use mathlib.Core.Path.{◌≡◌, refl, sym, ap, ap₂, subst, ◌∙◌}
 use mathlib.Core.Bool.{true, false≢true}
 use mathlib.Core.List.{List, [], ◌∷◌, ◌++◌}
-use mathlib.Core.Option.{Option, none, some}
 use native.Mathlib.Omega.{arith}
 use lib.ListN.{length, take, drop, set, length-set, length-append, take-append-drop}
 use lib.Seq.{length-take-le, drop-set-lt}
+use Rattle.std.proofs.Common.{Option, Some, None}
 use Rattle.words.specs.Constants.{stride, max_fields}
 use Rattle.slots.specs.Slots.{Slots, SceneEntry, put_slot, part, laid}
 use Rattle.slots.proofs.Laws.{Bounds, same_drop, length_part}
@@ -14,11 +14,11 @@ use Rattle.slots.proofs.View.{SameLengths, put-lengths}
 use Rattle.state.specs.declared.ScenesState.{ScenesState}
 use Rattle.state.specs.Table.{Table, with_entry_count, with_record_count, bump_if}
 use Rattle.tlv.specs.declared.elements.Element.{Element}
+use Rattle.tlv.specs.declared.members.Step.{Step}
 use Rattle.tlv.specs.declared.members.Step.TheVariants.{Member, End, Damaged}
 use Rattle.tlv.specs.Members.{member_at}
 use Rattle.tlv.proofs.Walks.{member_on}
 use Rattle.image_reader.specs.declared.Slot.{Slot}
-use Rattle.image_reader.specs.declared.Entry.TheVariants.{Scene, NoEntry}
 use Rattle.image_reader.specs.Entries.{entry_at, entry_in, scene_entry}
 use Rattle.image_reader.specs.Image.{prepended, members_from, entries_from}
 use Rattle.image_reader.proofs.Listing.{members_end, members_damaged, members_none, members_more}
@@ -28,16 +28,16 @@ use Rattle.image_gate.specs.Deciding.{readable, listed, image_with}
 use Rattle.image_gate.proofs.Scanning.{behind, Gathered, gather_start, gather_end, gather_damaged, gather_unread, gather_one, gather_next}
 
 -- what was read has no damage
-unread : {A C : Type 0} (r : Option (List A)) → none ≡ r → readable r ≡ true → C
+unread : {A C : Type 0} (r : Option (List A)) → None ≡ r → readable r ≡ true → C
 unread r e h = absurd (false≢true (ap readable e ∙ h))
 
-front_parts : {A : Type 0} (x : A) (r : Option (List A)) → readable (prepended (some x) r) ≡ true → (readable r ≡ true) × (listed (prepended (some x) r) ≡ x ∷ listed r)
-front_parts x none h = absurd (false≢true h)
-front_parts x (some xs) h = (refl, refl)
+front_parts : {A : Type 0} (x : A) (r : Option (List A)) → readable (prepended (Some x) r) ≡ true → (readable r ≡ true) × (listed (prepended (Some x) r) ≡ x ∷ listed r)
+front_parts x None h = absurd (false≢true h)
+front_parts x (Some xs) h = (refl, refl)
 
 behind-length : (xs : List ℕ) (r : Option (List ℕ)) → readable (behind xs r) ≡ true → length xs ≤ length (listed (behind xs r))
-behind-length xs none h = absurd (false≢true h)
-behind-length xs (some ys) h = omega (arith, length-append xs ys)
+behind-length xs None h = absurd (false≢true h)
+behind-length xs (Some ys) h = omega (arith, length-append xs ys)
 
 -- ---- records: the first n of the array stand in front, and the rest is as it came
 
@@ -64,10 +64,10 @@ module _ {read : ℕ → Option ℕ} {b : List ℕ} {first : ℕ} {words₀ word
   abbrev all : Option (List ℕ)
   all = members_from read b first
 
-  pub lay_damaged : {C : Type 0} → member_at b at ≡ Damaged → C
+  lay_damaged : {C : Type 0} → member_at b at ≡ Damaged → C
   lay_damaged e = unread all (gather_damaged read b first words n at t.gathered e) t.whole
 
-  pub lay_end : member_at b at ≡ End → (n ≡ length (listed all)) × (words ≡ laid (listed all) words₀)
+  lay_end : member_at b at ≡ End → (n ≡ length (listed all)) × (words ≡ laid (listed all) words₀)
   unfolding laid
   lay_end e =
       let q : take n words ≡ listed all = ap listed (gather_end read b first words n at t.gathered e) in
@@ -78,11 +78,19 @@ module _ {read : ℕ → Option ℕ} {b : List ℕ} {first : ℕ} {words₀ word
             ∙ ap (λ (xs : List ℕ). xs ++ drop (length (listed all)) words₀) q,
       )
 
+  -- where no member stands, all of them are written
+  pub lay_over :
+      (r : Step) → r ≡ member_at b at → ((h : Element) (k : ℕ) → r ≡ Member h k → ⊥) →
+      (n ≡ length (listed all)) × (words ≡ laid (listed all) words₀)
+  lay_over (Member h k) e f = absurd (f h k refl)
+  lay_over End e f = lay_end (sym e)
+  lay_over Damaged e f = lay_damaged (sym e)
+
   module _ (h : Element) (next : ℕ) (m : member_at b at ≡ Member h next) where
-    pub lay_unread : {C : Type 0} → read at ≡ none → C
+    pub lay_unread : {C : Type 0} → read at ≡ None → C
     lay_unread e = unread all (gather_unread read b first words n at t.gathered h next m e) t.whole
 
-    module _ (word : ℕ) (e : read at ≡ some word) where
+    module _ (word : ℕ) (e : read at ≡ Some word) where
       -- there is a place for one more
       pub lay_room : n < length words
       lay_room =
@@ -127,22 +135,30 @@ abbrev read_entry : List ℕ → ℕ → Option SceneEntry
 read_entry b i = entry_in b (entry_at b i)
 
 module _ {b : List ℕ} {first : ℕ} {s₀ s : Slots} {n at : ℕ} (t : Filling b first s₀ s n at) where
-  pub fill_damaged : {C : Type 0} → member_at b at ≡ Damaged → C
+  fill_damaged : {C : Type 0} → member_at b at ≡ Damaged → C
   fill_damaged e = unread (entries_from b at) (sym (members_damaged (read_entry b) b at e)) t.whole
 
-  pub fill_end : member_at b at ≡ End → (n ≡ length (listed (entries_from b first))) × (s ≡ put_entries 0 (listed (entries_from b first)) s₀)
+  fill_end : member_at b at ≡ End → (n ≡ length (listed (entries_from b first))) × (s ≡ put_entries 0 (listed (entries_from b first)) s₀)
   unfolding put_entries
   fill_end e =
       let q : listed (entries_from b at) ≡ [] = ap listed (members_end (read_entry b) b at e) in
       let l : length (listed (entries_from b at)) ≡ 0 = ap length q in
       (omega (arith, t.count), ap (λ (es : List SceneEntry). put_entries n es s) (sym q) ∙ t.rest)
 
+  -- where no member stands, all of them are written
+  pub fill_over :
+      (r : Step) → r ≡ member_at b at → ((h : Element) (k : ℕ) → r ≡ Member h k → ⊥) →
+      (n ≡ length (listed (entries_from b first))) × (s ≡ put_entries 0 (listed (entries_from b first)) s₀)
+  fill_over (Member h k) e f = absurd (f h k refl)
+  fill_over End e f = fill_end (sym e)
+  fill_over Damaged e f = fill_damaged (sym e)
+
   module _ (h : Element) (next : ℕ) (m : member_at b at ≡ Member h next) where
-    pub fill_unread : {C : Type 0} → entry_at b at ≡ NoEntry → C
+    pub fill_unread : {C : Type 0} → entry_at b at ≡ None → C
     fill_unread e = unread (entries_from b at) (sym (members_none (read_entry b) b at h next m (ap (entry_in b) e))) t.whole
 
-    module _ (slot : Slot) (e : entry_at b at ≡ Scene slot) where
-      more : entries_from b at ≡ prepended (some (scene_entry b slot)) (entries_from b next)
+    module _ (slot : Slot) (e : entry_at b at ≡ Some slot) where
+      more : entries_from b at ≡ prepended (Some (scene_entry b slot)) (entries_from b next)
       more = members_more (read_entry b) b at h next m (scene_entry b slot) (ap (entry_in b) e)
 
       parts : (readable (entries_from b next) ≡ true) × (listed (entries_from b at) ≡ scene_entry b slot ∷ listed (entries_from b next))
@@ -190,7 +206,7 @@ module _ {b : List ℕ} {first : ℕ} {s₀ s : Slots} {n at : ℕ} (t : Filling
 pub restores : (t : Table) (state : ScenesState) (s : Slots) (words : List ℕ) (es : List SceneEntry) (rs : List ℕ) (m n : ℕ)
     → (m ≡ length es) × (s ≡ put_entries 0 es t.slots) → (n ≡ length rs) × (words ≡ laid rs t.records)
     → state ≡ bump_if true (with_record_count n (with_entry_count m t.state))
-    → record { state = state; slots = s; records = words } ≡ restored (some (image_with es rs)) t
+    → record { state = state; slots = s; records = words } ≡ restored (Some (image_with es rs)) t
 unfolding restored
 restores t state s words es rs m n p q e = λ i. record {
   state = (e ∙ ap₂ (λ (a c : ℕ). bump_if true (with_record_count c (with_entry_count a t.state))) p.0 q.0) i;

@@ -3,13 +3,13 @@ use Prim.Native.Nat.{ℕ, zero, suc, ◌+◌, ◌≤◌, ◌<◌}
 use mathlib.Core.Path.{◌≡◌, refl, sym, ap, ap₂, subst, ◌∙◌}
 use mathlib.Core.Bool.{Bool, true, false, ◌&&◌}
 use mathlib.Core.List.{List, [], ◌∷◌, ◌++◌, map, map-append, append-nil, append_assoc}
-use mathlib.Core.Option.{some}
 use native.Mathlib.Numerals.{add-one}
 use native.Mathlib.Omega.{arith}
 use lib.Dec.{eqb, leb}
 use lib.ListN.{length, drop, get_or-append}
 use lib.Seq.{take-append_seam}
 use borrow.Author.Tests.{eqb-true, eqb-false, leb-true, le-leb}
+use Rattle.std.proofs.Common.{Some}
 use Rattle.words.specs.Constants.{max_fields}
 use Rattle.words.specs.Below.{positions, every_below}
 use Rattle.words.proofs.Tests.{and_left, and_right, all_none, all_more}
@@ -156,7 +156,7 @@ module _ (t : Table) (s : sound t ≡ true) (i : Image) (few : length i.entries 
       (λ j m. let w : ⊥ = omega arith in absurd w)
 
   -- the entries of the image, in order
-  pub restored-entries : entries_in (restored (some i) t) ≡ i.entries
+  pub restored-entries : entries_in (restored (Some i) t) ≡ i.entries
   unfolding entries_in restored positions
   restored-entries =
       let z : length i.entries ≡ 0 + length i.entries = omega arith in
@@ -164,11 +164,11 @@ module _ (t : Table) (s : sound t ≡ true) (i : Image) (few : length i.entries 
 
   module _ (few-records : length i.records ≤ t.state.size) where
     -- and its record words
-    pub restored-records : records_in (restored (some i) t) ≡ i.records
+    pub restored-records : records_in (restored (Some i) t) ≡ i.records
     unfolding records_in restored laid
     restored-records = take-append_seam i.records _
 
-    restored_bounds : (let r = restored (some i) t in
+    restored_bounds : (let r = restored (Some i) t in
         InBounds r.state (length r.slots.keys) (length r.slots.times) (length r.slots.fields) (length r.records))
     unfolding restored
     restored_bounds =
@@ -187,7 +187,7 @@ module _ (t : Table) (s : sound t ≡ true) (i : Image) (few : length i.entries 
 
     -- the table is sound if the image's words are
     pub restored-sound : each (λ (e : SceneEntry). key_sound e.key) i.entries ≡ true → records_sound i.records (length i.records) ≡ true
-        → sound (restored (some i) t) ≡ true
+        → sound (restored (Some i) t) ≡ true
     unfolding sound restored keys_sound entries_in laid
     restored-sound keys words =
         all_more _ _ (bounds_hold _ _ _ _ _ restored_bounds)

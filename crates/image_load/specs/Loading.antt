@@ -1,6 +1,5 @@
 -- What loading an image answers, and the table that it leaves: document 02, Q-1, and Q-3 for an image of no bytes.
-use Rattle.std.specs.Prelude.{ℕ, ◌+◌, ◌≤◌, ◌≡◌, true, false, List, [], ◌∷◌, length}
-use Rattle.std.proofs.Math.Option.{Option, none, some}
+use Rattle.std.specs.Prelude.{ℕ, ◌+◌, ◌≤◌, ◌≡◌, true, false, List, [], ◌∷◌, length, Option, Some, None}
 use Rattle.words.specs.Constants.{success, bad_image}
 use Rattle.slots.specs.Slots.{Slots, SceneEntry, put_slot, laid}
 use Rattle.state.specs.Table.{Table, with_entry_count, with_record_count, bump_if}
@@ -17,8 +16,8 @@ put_entries at (e ∷ es) s = put_entries (at + 1) es (put_slot at e.key e.time 
 
 -- entries and records of the image in place of the table's, in order, and one step of the data version
 unfoldable pub restored : Option Image → Table → Table
-restored none t = t
-restored (some i) t = record {
+restored None t = t
+restored (Some i) t = record {
   state = bump_if true (with_record_count (length i.records) (with_entry_count (length i.entries) t.state));
   slots = put_entries 0 i.entries t.slots;
   records = laid i.records t.records;

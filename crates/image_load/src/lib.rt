@@ -10,10 +10,10 @@ ghost use Rattle.state.specs.Answer.{result_of};
 ghost use Rattle.image_load.specs.Loading.{load_image};
 
 use image_gate::image_gate;
-use image_reader::{Arrays, arrays_in};
+use image_reader::arrays_in;
 use lifecycle::Lifecycle;
 use state::{Outcome, ScenesState};
-use words::{Fault, Status};
+use words::{Refusal, Status};
 use writing::restore;
 
 // The call on a table that is known to be sound. An image that is refused leaves it as it came.
@@ -33,14 +33,13 @@ pub fn load_sound(
     if image.len() == 0 {
         return Lifecycle { state }.startup(keys, times, fields, records);
     }
-    let Arrays::Both(first, second) = arrays_in(image) else {
-        return Outcome::unsaved(Fault::BAD_IMAGE, state);
+    let Some(arrays) = arrays_in(image) else {
+        return Outcome::refused_by(Refusal::BadImage, state);
     };
-    let refusal = image_gate(image, first, second, state.size);
-    if refusal != Status::SUCCESS {
-        return Outcome::unsaved(refusal, state);
+    if let Err(refusal) = image_gate(image, arrays.entries, arrays.records, state.size) {
+        return Outcome::refused_by(refusal, state);
     }
-    let loaded = restore(state, keys, times, fields, records, image, first, second);
+    let loaded = restore(state, keys, times, fields, records, image, arrays);
     Outcome::unsaved(Status::SUCCESS, loaded)
 }
 
@@ -61,5 +60,5 @@ pub fn load_image(
     if state.is_sound(keys, times, fields, records) {
         return load_sound(state, keys, times, fields, records, image);
     }
-    Outcome::unsaved(Fault::UNSOUND, state)
+    Outcome::refused_by(Refusal::Unsound, state)
 }

@@ -8,12 +8,9 @@ use lib.Dec.{eqb, ltb}
 use lib.ListN.{length, get_or, set, replicate, length-set}
 use lib.Seq.{get_or-set_same, get_or-set_other}
 use borrow.Author.Tests.{eq-eqb, ne_eqb, eqb-true, eqb-false, lt-ltb, le-ltb}
+use Rattle.std.proofs.Common.{None}
 use Rattle.tlv.specs.declared.elements.Element.{Element}
 use Rattle.tlv.specs.declared.members.Step.TheVariants.{Member, End, Damaged}
-use Rattle.tlv.specs.declared.passing.Next.TheVariants.{Broken}
-use Rattle.tlv.specs.declared.values.Number.TheVariants.{NoNumber}
-use Rattle.tlv.specs.declared.values.Boolean.TheVariants.{NoBoolean}
-use Rattle.tlv.specs.declared.values.Octets.TheVariants.{NoOctets}
 use Rattle.tlv.specs.Types.{u8_type, u16_type, u32_type, array_type, context_tagged}
 use Rattle.tlv.specs.Values.{number_at, bool_at, octets_at, inside_at}
 use Rattle.tlv.specs.Members.{Search, Found, Missing, Spoiled, member_at, tagged, found_from}
@@ -29,7 +26,7 @@ module _ (b : List ℕ) (tag from : ℕ) where
   number_placed : (most : ℕ) → number_at most b (place_of tag b from) ≡ member_number tag most b from
   unfolding number_at member_number
   number_placed most =
-      elim (found_from tag b from) as (λ r. number_at most b (searching r (length b) (λ at. at)) ≡ searching r NoNumber (number_at most b)) [
+      elim (found_from tag b from) as (λ r. number_at most b (searching r (length b) (λ at. at)) ≡ searching r None (number_at most b)) [
         | Found at ↦ refl
         | Missing ↦ rw (element_outside b (length b) (omega arith))
         | Spoiled ↦ rw (element_outside b (length b) (omega arith))
@@ -38,7 +35,7 @@ module _ (b : List ℕ) (tag from : ℕ) where
   bool_placed : bool_at b (place_of tag b from) ≡ member_bool tag b from
   unfolding bool_at member_bool
   bool_placed =
-      elim (found_from tag b from) as (λ r. bool_at b (searching r (length b) (λ at. at)) ≡ searching r NoBoolean (bool_at b)) [
+      elim (found_from tag b from) as (λ r. bool_at b (searching r (length b) (λ at. at)) ≡ searching r None (bool_at b)) [
         | Found at ↦ refl
         | Missing ↦ rw (element_outside b (length b) (omega arith))
         | Spoiled ↦ rw (element_outside b (length b) (omega arith))
@@ -47,7 +44,7 @@ module _ (b : List ℕ) (tag from : ℕ) where
   octets_placed : octets_at b (place_of tag b from) ≡ member_octets tag b from
   unfolding octets_at member_octets
   octets_placed =
-      elim (found_from tag b from) as (λ r. octets_at b (searching r (length b) (λ at. at)) ≡ searching r NoOctets (octets_at b)) [
+      elim (found_from tag b from) as (λ r. octets_at b (searching r (length b) (λ at. at)) ≡ searching r None (octets_at b)) [
         | Found at ↦ refl
         | Missing ↦ rw (element_outside b (length b) (omega arith))
         | Spoiled ↦ rw (element_outside b (length b) (omega arith))
@@ -56,7 +53,7 @@ module _ (b : List ℕ) (tag from : ℕ) where
   array_placed : inside_at array_type b (place_of tag b from) ≡ array_under tag b from
   unfolding inside_at array_under
   array_placed =
-      elim (found_from tag b from) as (λ r. inside_at array_type b (searching r (length b) (λ at. at)) ≡ searching r Broken (inside_at array_type b)) [
+      elim (found_from tag b from) as (λ r. inside_at array_type b (searching r (length b) (λ at. at)) ≡ searching r None (inside_at array_type b)) [
         | Found at ↦ refl
         | Missing ↦ rw (element_outside b (length b) (omega arith))
         | Spoiled ↦ rw (element_outside b (length b) (omega arith))
@@ -236,3 +233,11 @@ module _ (b : List ℕ) (at : ℕ) (e : Element) (next : ℕ) (m : member_at b a
 
   pub places-step : (qs : List ℕ) → qs ≡ after → (length qs ≡ tags) × (completed b next qs ≡ completed b at ps)
   places-step qs q = (ap length q ∙ noted-length ps e at (length b) ∙ l, ap (completed b next) q ∙ step_all)
+
+-- what the code reads at the places that it found
+pub ruleset founds = (key-found, time-found, fields-found, valid-found, entries-found, records-found)
+
+pub ruleset notes = (noted_untagged, noted_above, noted_first, noted_again)
+
+-- one member more is looked at
+pub ruleset places = (places-start, places-step, places_end, places_damaged, member_on)

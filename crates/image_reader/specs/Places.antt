@@ -1,11 +1,10 @@
 -- Where the members of a structure stand, as the code finds them all in one walk. No definition of a call rests on this.
-use Rattle.std.specs.Prelude.{ℕ, cond, ◌&&◌, List, [], ◌∷◌, eqb, ltb, length, get_or, set}
+use Rattle.tlv.specs.Passing.{reading}
+use Rattle.std.specs.Prelude.{ℕ, cond, ◌&&◌, List, [], ◌∷◌, eqb, ltb, length, get_or, set, Option, Some, None}
 use Rattle.words.specs.Words.{key_of}
 use Rattle.tlv.specs.declared.elements.Element.{Element}
-use Rattle.tlv.specs.declared.values.Number.{Number}
-use Rattle.tlv.specs.declared.values.Number.TheVariants.{Value, NoNumber}
 use Rattle.tlv.specs.Types.{u8_type, u16_type, context_tagged}
-use Rattle.tlv.specs.Values.{number_at, counting}
+use Rattle.tlv.specs.Values.{number_at}
 use Rattle.tlv.specs.Members.{found_from}
 use Rattle.image_reader.specs.Entries.{searching}
 
@@ -27,10 +26,10 @@ noted places e at none =
     cond (eqb e.form context_tagged && (ltb e.tag tags && eqb (get_or places e.tag 0) none)) (set places e.tag at) places
 
 -- the key word of the members at the first four places
-unfoldable pub key_at : List ℕ → List ℕ → Number
+unfoldable pub key_at : List ℕ → List ℕ → Option ℕ
 key_at bytes places =
-    counting (number_at u8_type bytes (get_or places 0 0)) NoNumber λ fabric.
-    cond (eqb fabric 0) NoNumber
-    (counting (number_at u16_type bytes (get_or places 1 0)) NoNumber λ endpoint.
-    counting (number_at u16_type bytes (get_or places 2 0)) NoNumber λ group.
-    counting (number_at u8_type bytes (get_or places 3 0)) NoNumber λ scene. Value (key_of fabric endpoint group scene))
+    reading (number_at u8_type bytes (get_or places 0 0)) None λ fabric.
+    cond (eqb fabric 0) None
+    (reading (number_at u16_type bytes (get_or places 1 0)) None λ endpoint.
+    reading (number_at u16_type bytes (get_or places 2 0)) None λ group.
+    reading (number_at u8_type bytes (get_or places 3 0)) None λ scene. Some (key_of fabric endpoint group scene))

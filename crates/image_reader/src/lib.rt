@@ -6,10 +6,7 @@ ghost use Rattle.image_reader.specs.Entries.{entry_at, record_at};
 ghost use Rattle.image_reader.specs.Image.{arrays_in};
 ghost use Rattle.image_reader.specs.Places.{places_from, noted, key_at};
 
-use tlv::{
-    Boolean, Element, Next, Number, Octets, Step, TagType, ValueType, bool_at, inside_at,
-    member_at, number_at, octets_at,
-};
+use tlv::{Element, Step, TagType, ValueType, bool_at, inside_at, member_at, number_at, octets_at};
 use words::{KeyWord, Limits};
 
 // An entry: its key word, its time, and where its field bytes stand in the image.
@@ -21,18 +18,11 @@ pub struct Slot {
     pub to: usize,
 }
 
-// An entry, or none that can be read.
+// Where the first member of each array stands.
 #[derive(Clone, Copy)]
-pub enum Entry {
-    Scene(Slot),
-    NoEntry,
-}
-
-// Where the first member of each array stands, or that there are not both.
-#[derive(Clone, Copy)]
-pub enum Arrays {
-    Both(usize, usize),
-    NoArrays,
+pub struct Arrays {
+    pub entries: usize,
+    pub records: usize,
 }
 
 // The context tags in an image.
@@ -62,6 +52,7 @@ impl Tag {
 }
 
 // A member noted in its place, if it is the first with one of the tags: `none` stands where none was found yet.
+#[tactic(auto, using(crate::proofs::Finding::notes))]
 fn note(places: &mut [usize; 6], e: Element, at: usize, none: usize)
     ensures { places.new ≡ noted places.old e at none }
 {
@@ -69,122 +60,85 @@ fn note(places: &mut [usize; 6], e: Element, at: usize, none: usize)
         return;
     }
     let tag = e.tag as usize;
-    if tag < Tag::TAGS {
-        if places[tag] == none {
-            places[tag] = at;
-        }
+    if tag < Tag::TAGS && places[tag] == none {
+        places[tag] = at;
     }
 }
 
 // Where the first member with each of the tags stands, from the first member of a structure on; the end of the bytes for none.
+#[tactic(auto, using(crate::proofs::Finding::places))]
 fn find_places(bytes: &[u8], from: usize) -> [usize; 6]
     ensures { result ≡ places_from bytes.now from }
 {
     let none = bytes.len();
     let mut places = [none; 6];
     let mut i = from;
-    loop {
-        let step = member_at(bytes, i);
-        match step {
-            Step::Member(e, next) => {
-                note(&mut places, e, i, none);
-                i = next;
-            }
-            Step::End => {
-                return places;
-            }
-            Step::Damaged => {
-                return places;
-            }
-        }
+    while let Step::Member(e, next) = member_at(bytes, i) {
+        note(&mut places, e, i, none);
+        i = next;
     }
+    places
 }
 
 // The key word of members 0 to 3.
-fn key_at(bytes: &[u8], places: [usize; 6]) -> Number
+#[tactic(auto, unfolding(crate::specs::Places::key_at))]
+fn key_at(bytes: &[u8], places: [usize; 6]) -> Option<u64>
     ensures { result ≡ key_at bytes.now places }
 {
-    let Number::Value(fabric) = number_at(bytes, places[Tag::FABRIC], ValueType::U8) else {
-        return Number::NoNumber;
-    };
+    let fabric = number_at(bytes, places[Tag::FABRIC], ValueType::U8)?;
     if fabric == 0 {
-        return Number::NoNumber;
+        return None;
     }
-    let Number::Value(endpoint) = number_at(bytes, places[Tag::ENDPOINT], ValueType::U16) else {
-        return Number::NoNumber;
-    };
-    let Number::Value(group) = number_at(bytes, places[Tag::GROUP], ValueType::U16) else {
-        return Number::NoNumber;
-    };
-    let Number::Value(scene) = number_at(bytes, places[Tag::SCENE], ValueType::U8) else {
-        return Number::NoNumber;
-    };
-    Number::Value(
-        fabric * KeyWord::FABRIC + endpoint * KeyWord::ENDPOINT + group * KeyWord::GROUP + scene,
-    )
+    let endpoint = number_at(bytes, places[Tag::ENDPOINT], ValueType::U16)?;
+    let group = number_at(bytes, places[Tag::GROUP], ValueType::U16)?;
+    let scene = number_at(bytes, places[Tag::SCENE], ValueType::U8)?;
+    Some(fabric * KeyWord::FABRIC + endpoint * KeyWord::ENDPOINT + group * KeyWord::GROUP + scene)
 }
 
-// The entry at a position.
-pub fn entry_at(bytes: &[u8], at: usize) -> Entry
+// The entry at a position, if one can be read.
+#[tactic(auto, using(crate::proofs::Finding::founds), unfolding(crate::specs::Entries::entry_at))]
+pub fn entry_at(bytes: &[u8], at: usize) -> Option<Slot>
     ensures { result ≡ entry_at bytes.now at }
 {
-    let Next::At(inside) = inside_at(bytes, at, ValueType::STRUCT) else {
-        return Entry::NoEntry;
-    };
+    let inside = inside_at(bytes, at, ValueType::STRUCT)?;
     let places = find_places(bytes, inside);
-    let Number::Value(key) = key_at(bytes, places) else {
-        return Entry::NoEntry;
-    };
-    let Number::Value(time) = number_at(bytes, places[Tag::TIME], ValueType::U32) else {
-        return Entry::NoEntry;
-    };
-    let Octets::Span(from, to) = octets_at(bytes, places[Tag::FIELDS]) else {
-        return Entry::NoEntry;
-    };
-    if Limits::MAX_EXT_FIELDS_LEN < to - from {
-        return Entry::NoEntry;
+    let key = key_at(bytes, places)?;
+    let time = number_at(bytes, places[Tag::TIME], ValueType::U32)?;
+    let fields = octets_at(bytes, places[Tag::FIELDS])?;
+    if Limits::MAX_EXT_FIELDS_LEN < fields.to - fields.from {
+        return None;
     }
-    Entry::Scene(Slot {
+    Some(Slot {
         key,
         time: time as u32,
-        from,
-        to,
+        from: fields.from,
+        to: fields.to,
     })
 }
 
-// The record word of the record at a position.
-pub fn record_at(bytes: &[u8], at: usize) -> Number
+// The record word of the record at a position, if one can be read.
+#[tactic(auto, using(crate::proofs::Finding::founds), unfolding(crate::specs::Entries::record_at))]
+pub fn record_at(bytes: &[u8], at: usize) -> Option<u64>
     ensures { result ≡ record_at bytes.now at }
 {
-    let Next::At(inside) = inside_at(bytes, at, ValueType::STRUCT) else {
-        return Number::NoNumber;
-    };
+    let inside = inside_at(bytes, at, ValueType::STRUCT)?;
     let places = find_places(bytes, inside);
-    let Number::Value(key) = key_at(bytes, places) else {
-        return Number::NoNumber;
-    };
-    let Boolean::Is(valid) = bool_at(bytes, places[Tag::VALID]) else {
-        return Number::NoNumber;
-    };
+    let key = key_at(bytes, places)?;
+    let valid = bool_at(bytes, places[Tag::VALID])?;
     if valid {
-        return Number::Value(key + KeyWord::VALID);
+        return Some(key + KeyWord::VALID);
     }
-    Number::Value(key)
+    Some(key)
 }
 
-// Where the entries and the records of an image start.
-pub fn arrays_in(bytes: &[u8]) -> Arrays
+// Where the entries and the records of an image start, if it has both.
+#[tactic(auto, using(crate::proofs::Finding::founds), unfolding(crate::specs::Image::arrays_in))]
+pub fn arrays_in(bytes: &[u8]) -> Option<Arrays>
     ensures { result ≡ arrays_in bytes.now }
 {
-    let Next::At(inside) = inside_at(bytes, 0, ValueType::STRUCT) else {
-        return Arrays::NoArrays;
-    };
+    let inside = inside_at(bytes, 0, ValueType::STRUCT)?;
     let places = find_places(bytes, inside);
-    let Next::At(entries) = inside_at(bytes, places[Tag::ENTRIES], ValueType::ARRAY) else {
-        return Arrays::NoArrays;
-    };
-    let Next::At(records) = inside_at(bytes, places[Tag::RECORDS], ValueType::ARRAY) else {
-        return Arrays::NoArrays;
-    };
-    Arrays::Both(entries, records)
+    let entries = inside_at(bytes, places[Tag::ENTRIES], ValueType::ARRAY)?;
+    let records = inside_at(bytes, places[Tag::RECORDS], ValueType::ARRAY)?;
+    Some(Arrays { entries, records })
 }

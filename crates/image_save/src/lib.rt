@@ -2,13 +2,14 @@
 #![tactic(auto)]
 
 ghost use Rattle.std.specs.Prelude.{◌≡◌, true};
+ghost use Rattle.words.specs.Refusals.{number_of};
 ghost use Rattle.state.specs.Table.{table_of};
 ghost use Rattle.state.specs.Sound.{sound};
 ghost use Rattle.image_save.specs.Saving.{saved_of, save_image};
 
 use image_writer::{image_len, put_image};
 use state::ScenesState;
-use words::{Fault, Status};
+use words::{Refusal, Status};
 
 // The answer: the head as it came, and how many bytes of the buffer are the image.
 #[repr(C)]
@@ -29,6 +30,13 @@ impl ImageSaved {
             state,
         }
     }
+
+    // The same, by the refusal itself.
+    pub fn refused_by(refusal: Refusal, state: ScenesState) -> ImageSaved
+        ensures { result ≡ record { status = number_of refusal; len = 0; state = state } }
+    {
+        ImageSaved::refused(u8::from(refusal), state)
+    }
 }
 
 // The call on a table that is known to be sound. The length of the image is counted before the first byte is written.
@@ -47,7 +55,7 @@ pub fn save_sound(
     let entries = state.entries;
     let recorded = state.recorded;
     if buffer.len() < image_len(keys, times, fields, entries, records, recorded) {
-        return ImageSaved::refused(Fault::BUFFER_TOO_SHORT, state);
+        return ImageSaved::refused_by(Refusal::BufferTooShort, state);
     }
     let len = put_image(buffer, keys, times, fields, entries, records, recorded);
     ImageSaved {
@@ -72,5 +80,5 @@ pub fn save_image(
     if state.is_sound(keys, times, fields, records) {
         return save_sound(state, keys, times, fields, records, buffer);
     }
-    ImageSaved::refused(Fault::UNSOUND, state)
+    ImageSaved::refused_by(Refusal::Unsound, state)
 }

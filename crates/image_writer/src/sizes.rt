@@ -33,23 +33,26 @@ impl ImageLength {
     }
 }
 
+#[tactic(auto, using(tlv::proofs::Codes::number_size_le))]
 fn key_len(key: u64) -> usize
     ensures { result ≡ key_length key }
 {
     number_size(fabric_of(key))
-        + number_size(endpoint_of(key) as u64)
-        + number_size(group_of(key) as u64)
-        + number_size(scene_of(key) as u64)
+        + number_size(u64::from(endpoint_of(key)))
+        + number_size(u64::from(group_of(key)))
+        + number_size(u64::from(scene_of(key)))
 }
 
 // An entry with so many field bytes.
+#[tactic(auto, using(tlv::proofs::Codes::number_size_le))]
 fn entry_len(key: u64, time: u32, fields: usize) -> usize
     requires { fields ≤ max_fields }
     ensures { result ≡ entry_length key time fields }
 {
-    ImageLength::ENTRY_FRAME + key_len(key) + number_size(time as u64) + octets_size(fields)
+    ImageLength::ENTRY_FRAME + key_len(key) + number_size(u64::from(time)) + octets_size(fields)
 }
 
+#[tactic(auto, using(tlv::proofs::Codes::number_size_le))]
 fn record_len(word: u64) -> usize
     ensures { result ≡ record_length word }
 {
@@ -67,10 +70,8 @@ fn entries_len(keys: &[u64], times: &[u32], fields: &[u8], n: usize) -> usize
         result ≡ length (flat_map entry_bytes (map (entry_at slots) (positions n))) }
 {
     let mut len = 0;
-    let mut i = 0;
-    while i < n {
+    for i in 0..n {
         len += entry_len(keys[i], times[i], slots::length_at(fields, i));
-        i += 1;
     }
     len
 }
@@ -82,10 +83,8 @@ fn records_len(records: &[u64], n: usize) -> usize
     ensures { result ≡ length (flat_map record_bytes (take n records.now)) }
 {
     let mut len = 0;
-    let mut i = 0;
-    while i < n {
-        len += record_len(records[i]);
-        i += 1;
+    for word in &records[..n] {
+        len += record_len(*word);
     }
     len
 }

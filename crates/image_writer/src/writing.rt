@@ -37,9 +37,9 @@ fn put_key(out: &mut [u8], at: usize, key: u64) -> usize
     ensures { sheet out.new result ≡ puts (key_bytes key) (sheet out.old at) }
 {
     let a = put_number(out, at, Tag::FABRIC, fabric_of(key));
-    let b = put_number(out, a, Tag::ENDPOINT, endpoint_of(key) as u64);
-    let c = put_number(out, b, Tag::GROUP, group_of(key) as u64);
-    put_number(out, c, Tag::SCENE, scene_of(key) as u64)
+    let b = put_number(out, a, Tag::ENDPOINT, u64::from(endpoint_of(key)));
+    let c = put_number(out, b, Tag::GROUP, u64::from(group_of(key)));
+    put_number(out, c, Tag::SCENE, u64::from(scene_of(key)))
 }
 
 fn put_entry(out: &mut [u8], at: usize, key: u64, time: u32, fields: &[u8]) -> usize
@@ -47,7 +47,7 @@ fn put_entry(out: &mut [u8], at: usize, key: u64, time: u32, fields: &[u8]) -> u
 {
     let a = put_plain(out, at, ValueType::STRUCT);
     let b = put_key(out, a, key);
-    let c = put_number(out, b, Tag::TIME, time as u64);
+    let c = put_number(out, b, Tag::TIME, u64::from(time));
     let d = put_octets(out, c, Tag::FIELDS, fields);
     put_plain(out, d, ValueType::END_CNT)
 }
@@ -78,10 +78,8 @@ fn put_entries(
         sheet out.new result ≡ puts (flat_map entry_bytes (map (entry_at slots) (positions n))) (sheet out.old at) }
 {
     let mut next = at;
-    let mut i = 0;
-    while i < n {
+    for i in 0..n {
         next = put_entry(out, next, keys[i], times[i], slots::field_bytes(fields, i));
-        i += 1;
     }
     next
 }
@@ -92,10 +90,8 @@ fn put_records(out: &mut [u8], at: usize, records: &[u64], n: usize) -> usize
     ensures { sheet out.new result ≡ puts (flat_map record_bytes (take n records.now)) (sheet out.old at) }
 {
     let mut next = at;
-    let mut i = 0;
-    while i < n {
-        next = put_record(out, next, records[i]);
-        i += 1;
+    for word in &records[..n] {
+        next = put_record(out, next, *word);
     }
     next
 }

@@ -55,9 +55,8 @@ impl Lifecycle {
             result_of result.status result.save after ≡ remove_for_fabric fabric before }
     {
         let before = self.state;
-        let gate = requests::fabric_gate(fabric);
-        if gate != Status::SUCCESS {
-            return Outcome::unsaved(gate, before);
+        if let Err(refusal) = requests::fabric_gate(fabric) {
+            return Outcome::refused_by(refusal, before);
         }
         let entries = before.entries;
         let recorded = before.recorded;
@@ -65,11 +64,7 @@ impl Lifecycle {
         let left = records::retain(records, recorded, fabric);
         state.recorded = left;
         if state.entries + left < entries + recorded {
-            return Outcome {
-                status: Status::SUCCESS,
-                save: true,
-                state: state.bump_info_dataver(),
-            };
+            return Outcome::saved(state.bump_info_dataver());
         }
         Outcome::unsaved(Status::SUCCESS, state)
     }

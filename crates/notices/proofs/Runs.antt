@@ -12,7 +12,9 @@ use lib.Dec.{eqb, ltb}
 use lib.ListN.{length, set, take, drop}
 use lib.Seq.{set-get_or}
 use borrow.Author.Tests.{eqb-true, eqb-false, le-leb, lt-leb, leb-true, lt-ltb, le-ltb}
-use Rattle.words.specs.Constants.{success, unsound}
+use Rattle.std.specs.Prelude.{Ok, Err}
+use Rattle.words.specs.Constants.{success}
+use Rattle.words.specs.declared.Refusal.TheVariants.{Unsound}
 use Rattle.words.specs.Below.{any_below, every_below}
 use Rattle.words.proofs.Below.{every_more, every_fails}
 use Rattle.words.proofs.Tests.{all_head, all_tail, and_false}
@@ -44,8 +46,8 @@ left_of p = (p.state.recorded - p.at) + cond p.clears 0 p.state.recorded
 
 -- a pass in its first round, at a record: whether it has no fabric, and whether one follows
 looked_fewer : (p : Pass) (a b : Bool) → p.at < p.state.recorded
-    → left_of (cond a (pass_of p.state p.endpoint unsound false p.changed p.state.recorded)
-    (cond b (pass_of p.state p.endpoint p.status false p.changed (p.at + 1)) (pass_of p.state p.endpoint p.status true p.changed 0)))
+    → left_of (cond a (pass_of p.state p.endpoint (Err Unsound) false p.changed p.state.recorded)
+    (cond b (pass_of p.state p.endpoint p.answer false p.changed (p.at + 1)) (pass_of p.state p.endpoint p.answer true p.changed 0)))
     < (p.state.recorded - p.at) + p.state.recorded
 looked_fewer p true b h = omega arith
 looked_fewer p false true h = omega arith
@@ -92,12 +94,12 @@ module _ (e : ℕ) (s : ScenesState) (xs : List CurrentScene) where
 
   -- the first round at i, and the second
   abbrev looking : ℕ → Pass
-  looking i = pass_of s e success false false i
+  looking i = pass_of s e (Ok tt) false false i
 
   abbrev clearing : ℕ → Pass
-  clearing i = pass_of s e success true (changed i) i
+  clearing i = pass_of s e (Ok tt) true (changed i) i
 
-  refuses : (b : Bool) → (head_sound s (length xs) && fabrics_sound xs s.recorded) ≡ false → answer_of (outcome_of (pass_of s e unsound b false s.recorded)) xs ≡ answer
+  refuses : (b : Bool) → (head_sound s (length xs) && fabrics_sound xs s.recorded) ≡ false → answer_of (outcome_of (pass_of s e (Err Unsound) b false s.recorded)) xs ≡ answer
   unfolding notice_records
   refuses b h = rw h
 
@@ -113,7 +115,7 @@ module _ (e : ℕ) (s : ScenesState) (xs : List CurrentScene) where
         omega arith
 
     module _ (fabrics : fabrics_sound xs s.recorded ≡ true) where
-      answers : (b : Bool) (at : ℕ) → answer_of (outcome_of (pass_of s e success b (changed s.recorded) at)) (firsts e s.recorded xs) ≡ answer
+      answers : (b : Bool) (at : ℕ) → answer_of (outcome_of (pass_of s e (Ok tt) b (changed s.recorded) at)) (firsts e s.recorded xs) ≡ answer
       unfolding notice_records notice_all
       answers b at = rw (head, fabrics)
 
@@ -136,7 +138,7 @@ module _ (e : ℕ) (s : ScenesState) (xs : List CurrentScene) where
         let zero-fabric : (record_at xs i).fab_idx ≡ 0 = eqb-true _ _ none in
         let unsound-one : fabrics_sound xs s.recorded ≡ false = every_fails _ s.recorded i small (lt-leb 1 (record_at xs i).fab_idx (omega arith)) in
         turn (looking i) xs small (omega (arith, in_slice))
-        (along (over (pass_of s e unsound false false s.recorded) xs (le-ltb s.recorded s.recorded (omega arith)) (refuses false (rw (unsound-one, and_false)))) (rw none) (set-get_or xs i _))
+        (along (over (pass_of s e (Err Unsound) false false s.recorded) xs (le-ltb s.recorded s.recorded (omega arith)) (refuses false (rw (unsound-one, and_false)))) (rw none) (set-get_or xs i _))
 
     sound_more : (i : ℕ) → fabrics_sound xs i ≡ true → eqb (record_at xs i).fab_idx 0 ≡ false → fabrics_sound xs (i + 1) ≡ true
     unfolding fabrics_sound
@@ -174,7 +176,7 @@ module _ (e : ℕ) (s : ScenesState) (xs : List CurrentScene) where
 
 pub runs : (e : ℕ) (s : ScenesState) (xs : List CurrentScene) → Runs (notice_records e s xs) (begun s (length xs) e) xs
 runs e s xs =
-    (elim (head_sound s (length xs)) as (λ b. head_sound s (length xs) ≡ b → Runs (notice_records e s xs) (cond b (pass_of s e success false false 0) (pass_of s e unsound false false s.recorded)) xs) [
+    (elim (head_sound s (length xs)) as (λ b. head_sound s (length xs) ≡ b → Runs (notice_records e s xs) (cond b (pass_of s e (Ok tt) false false 0) (pass_of s e (Err Unsound) false false s.recorded)) xs) [
       | true ↦ λ h. started e s xs h s.recorded refl
       | false ↦ λ h. over _ xs (le-ltb s.recorded s.recorded (omega arith)) (refuses e s xs false (rw h))
     ]) refl

@@ -7,7 +7,7 @@ ghost use Rattle.notices.specs.Notice.{hits, noticed, head_sound, answer_of, not
 ghost use Rattle.notices.specs.Pass.{begun, visit, outcome_of};
 
 use state::{Outcome, ScenesState};
-use words::{Fault, Limits, Status};
+use words::{Limits, Refusal};
 
 // A fabric's current scene (the Rust's struct of that name).
 #[repr(C)]
@@ -33,7 +33,7 @@ pub struct Noticed {
 struct Pass {
     state: ScenesState,
     endpoint: u16,
-    status: u8,
+    answer: Result<(), Refusal>,
     clears: bool,
     changed: bool,
     // The record to visit next: the pass is over at the count.
@@ -86,16 +86,16 @@ impl Pass {
     fn begin(state: ScenesState, lent: usize, endpoint: u16) -> Pass
         ensures { result ≡ begun state lent endpoint }
     {
-        let mut status = Status::SUCCESS;
+        let mut answer = Ok(());
         let mut at = 0;
         if !is_head_sound(state, lent) {
-            status = Fault::UNSOUND;
+            answer = Err(Refusal::Unsound);
             at = state.recorded;
         }
         Pass {
             state,
             endpoint,
-            status,
+            answer,
             clears: false,
             changed: false,
             at,
@@ -120,7 +120,7 @@ impl Pass {
             };
         }
         if record.fab_idx == 0 {
-            self.status = Fault::UNSOUND;
+            self.answer = Err(Refusal::Unsound);
             self.at = n;
         } else if next < n {
             self.at = next;
@@ -139,11 +139,7 @@ impl Pass {
         if self.changed {
             state = state.bump_info_dataver();
         }
-        Outcome {
-            status: self.status,
-            save: false,
-            state,
-        }
+        Outcome::unsaved(words::status_of(self.answer), state)
     }
 }
 

@@ -1,3 +1,3 @@
--- `Agreement` proves that both passes agree on every row, and `Equal` has the laws of the tests that compare them.
+-- `Agreement` proves that both passes agree on every row, and `FourWords` has the words of four records, one by one.
 pub mod Agreement
-pub mod Equal
+pub mod FourWords

@@ -85,28 +85,6 @@ fn on_words(state: ScenesState, words: [u64; 4], endpoint: u16) -> PassedWords
     }
 }
 
-// Whether two answers are equal.
-fn same_outcome(a: Outcome, b: Outcome) -> bool
-    ensures { (result ≡ true → a ≡ b) × (a ≡ b → result ≡ true) }
-{
-    let s = a.state;
-    let t = b.state;
-    (a.status == b.status)
-        & (a.save == b.save)
-        & (s.size == t.size)
-        & (s.entries == t.entries)
-        & (s.recorded == t.recorded)
-        & (s.dataver == t.dataver)
-        & (s.modes == t.modes)
-}
-
-// Whether two arrays are equal.
-fn same_words(v: [u64; 4], w: [u64; 4]) -> bool
-    ensures { (result ≡ true → v ≡ w) × (v ≡ w → result ≡ true) }
-{
-    (v[0] == w[0]) & (v[1] == w[1]) & (v[2] == w[2]) & (v[3] == w[3])
-}
-
 // Whether both passes answer the same and leave the same words.
 fn agree(state: ScenesState, records: [CurrentScene; 4], endpoint: u16) -> bool
     ensures { result ≡ true }
@@ -115,7 +93,7 @@ fn agree(state: ScenesState, records: [CurrentScene; 4], endpoint: u16) -> bool
     let w = on_words(state, pack_all(records), endpoint);
     let after = s.records;
     let words = w.words;
-    same_outcome(s.outcome, w.outcome) & same_words(pack_all(after), words)
+    (s.outcome == w.outcome) & (pack_all(after) == words)
 }
 
 // Writes what the pass over structs left: status, data version, and a digit for each record, 1 while it is valid. A write that fails ends

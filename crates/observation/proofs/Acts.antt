@@ -8,7 +8,7 @@ use lib.Dec.{ltb}
 use lib.ListN.{length}
 use Rattle.words.specs.Constants.{success, max_fields}
 use Rattle.words.specs.Words.{word_of, valid_record}
-use Rattle.words.specs.declared.Found.TheVariants.{At, Nothing}
+use Rattle.std.specs.Prelude.{Some, None}
 use Rattle.words.specs.declared.SceneKey.{SceneKey}
 use Rattle.slots.specs.Slots.{SceneEntry, key_sound}
 use Rattle.records.specs.declared.Scope.{Scope}
@@ -73,14 +73,14 @@ module _ (key : SceneKey) where
 
   -- a write, over the key's entry or behind the last
   module _ (time : ℕ) (ext : List ℕ) (short : length ext ≤ max_fields) (k : key_sound (word_of key) ≡ true) (t : Table) (sd : sound t ≡ true) where
-    pub writes_over : (p : ℕ) → find_scene key t ≡ At p → Shows (with_entries (put_at p key time ext) t) (written (entry_of key time ext) (view_of t))
+    pub writes_over : (p : ℕ) → find_scene key t ≡ Some p → Shows (with_entries (put_at p key time ext) t) (written (entry_of key time ext) (view_of t))
     unfolding view_of
     writes_over p e = record {
       view = with_entries_lem t (with_entries (put_at p key time ext) t) _ (put_only t p key time ext) (put-known t sd key time ext short p e);
       stays = put-known-sound t sd key time ext short p e k;
     }
 
-    pub writes-new : find_scene key t ≡ Nothing → t.state.entries < t.state.size → Shows (with_entries (append key time ext) t) (written (entry_of key time ext) (view_of t))
+    pub writes-new : find_scene key t ≡ None → t.state.entries < t.state.size → Shows (with_entries (append key time ext) t) (written (entry_of key time ext) (view_of t))
     unfolding view_of
     writes-new e h = record {
       view = with_entries_lem t (with_entries (append key time ext) t) _ (append-only t key time ext) (put-new t sd key time ext short h e);

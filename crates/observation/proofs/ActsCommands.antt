@@ -9,7 +9,7 @@ use lib.ListN.{length, length-append}
 use borrow.Author.Tests.{ltb-true, ltb-false, eq-eqb, ne_eqb}
 use Rattle.words.specs.Constants.{success, insufficient_space, not_found, max_fields, end_of_container}
 use Rattle.words.specs.Words.{word_of, group_keys}
-use Rattle.words.specs.declared.Found.TheVariants.{At, Nothing}
+use Rattle.std.specs.Prelude.{Some, None, is_some}
 use Rattle.words.specs.declared.KeyRange.{KeyRange}
 use Rattle.words.specs.declared.SceneKey.{SceneKey}
 use Rattle.slots.specs.Slots.{SceneEntry, entry_at, first_key, key_sound}
@@ -28,7 +28,6 @@ use Rattle.add_read.specs.Adding.{add_scene_read}
 use Rattle.observation.specs.Lists.{count, find, keep}
 use Rattle.observation.specs.Calls.{add, add_read, store, remove, remove_all, command, step, does, of_result, CommandInRange, scene_key, group_key}
 use Rattle.observation.specs.Equivalence.{key_is}
-use Rattle.image_gate.specs.Verdict.{is_found}
 use Rattle.observation.proofs.Lists.{has, take_out}
 use Rattle.observation.proofs.Lookups.{holds, found_at, entry_of}
 use Rattle.observation.proofs.Changes as changes
@@ -50,7 +49,7 @@ module _ (key : SceneKey) (time : ℕ) (ext : List ℕ) (short : length ext ≤ 
   abbrev may : Bool
   may = may_append t.state t.slots.keys key.fabric
 
-  place : place_for key.fabric (word_of key) (view_of t) ≡ (is_found (find_scene key t) || may)
+  place : place_for key.fabric (word_of key) (view_of t) ≡ (is_some (find_scene key t) || may)
   unfolding view_of
   place = ap₂ (λ (b : Bool) (n : ℕ). b || ltb 0 n) (entries_has t (word_of key)) (sym (places key.fabric t))
 
@@ -58,11 +57,11 @@ module _ (key : SceneKey) (time : ℕ) (ext : List ℕ) (short : length ext ≤ 
   module _ (after : Upserted → Result) (x y : Seen)
       (placed : (u : Table) → Shows u (invalidated (Scene key) (changes.written (entry_of key time ext) (view_of t))) → Acts (of_result (after (upserted_of success u))) x)
       (full : Acts (of_result (after (upserted_of insufficient_space t))) y) where
-    over : (p : ℕ) → find_scene key t ≡ At p → Acts (of_result (after (upsert_at (At p) key time ext t))) x
+    over : (p : ℕ) → find_scene key t ≡ Some p → Acts (of_result (after (upsert_at (Some p) key time ext t))) x
     unfolding upsert_at
     over p e = placed _ (invalidates (Scene key) _ _ (writes_over key time ext short k t sd p e))
 
-    behind : find_scene key t ≡ Nothing → Acts (of_result (after (upsert_at Nothing key time ext t))) (cond may x y)
+    behind : find_scene key t ≡ None → Acts (of_result (after (upsert_at None key time ext t))) (cond may x y)
     unfolding upsert_at
     behind e =
         (elim may as (λ b. may ≡ b
@@ -75,18 +74,18 @@ module _ (key : SceneKey) (time : ℕ) (ext : List ℕ) (short : length ext ≤ 
     unfolding upsert
     upserts =
         subst (λ (b : Bool). Acts (of_result (after (upsert key time ext t))) (cond b x y)) (sym place)
-        ((elim (find_scene key t) as (λ f. find_scene key t ≡ f → Acts (of_result (after (upsert_at f key time ext t))) (cond (is_found f || may) x y))
-        [ At p ↦ λ e. over p e | Nothing ↦ λ e. behind e ]) refl)
+        ((elim (find_scene key t) as (λ f. find_scene key t ≡ f → Acts (of_result (after (upsert_at f key time ext t))) (cond (is_some f || may) x y))
+        [ Some p ↦ λ e. over p e | None ↦ λ e. behind e ]) refl)
 
 -- ---- the other changes
 
 module _ (t : Table) (sd : sound t ≡ true) where
   prior_time_lem : (key : SceneKey) → prior_time (find_scene key t) t.slots.times ≡ time_of (find (key_is (word_of key)) (entries_in t))
   prior_time_lem key =
-      elim (find_scene key t) as (λ f. prior_time f t.slots.times ≡ time_of (found_at (entry_at t.slots) f)) [ At p ↦ refl | Nothing ↦ refl ]
+      elim (find_scene key t) as (λ f. prior_time f t.slots.times ≡ time_of (found_at (entry_at t.slots) f)) [ Some p ↦ refl | None ↦ refl ]
       ∙ ap time_of (sym (entries-find t (word_of key)))
 
-  removes : (k p : ℕ) → first_key t.slots.keys t.state.entries k ≡ At p → Shows (with_entries (swap_remove p) t) (entries_set (take_out (key_is k) (view_of t).entries) (view_of t))
+  removes : (k p : ℕ) → first_key t.slots.keys t.state.entries k ≡ Some p → Shows (with_entries (swap_remove p) t) (entries_set (take_out (key_is k) (view_of t).entries) (view_of t))
   unfolding view_of
   removes k p e = record { view = with_entries_lem t (with_entries (swap_remove p) t) _ (removed-only t p) (removed t sd k p e); stays = removed-sound t sd k p e }
 
@@ -164,9 +163,9 @@ module _ (f e : ℕ) (t : Table) (sd : sound t ≡ true) (hf : f < 2 ^ 8) (he : 
       acts_passed (refused t) t sd _ _ of_result _ p
       (rw (entries_has t (word_of key))
       ((elim (find_scene key t) as (λ x. find_scene key t ≡ x
-      → Acts (of_result (remove_found x key t)) (cond (is_found x) (done true, invalidated (Scene key) (entries_set (take_out (key_is (word_of key)) (view_of t).entries) (view_of t))) (refuse not_found, view_of t))) [
-        | At i ↦ λ q. results success true _ _ (invalidates (Scene key) _ _ (removes t sd (word_of key) i q))
-        | Nothing ↦ λ q. results not_found false t (view_of t) (itself t sd)
+      → Acts (of_result (remove_found x key t)) (cond (is_some x) (done true, invalidated (Scene key) (entries_set (take_out (key_is (word_of key)) (view_of t).entries) (view_of t))) (refuse not_found, view_of t))) [
+        | Some i ↦ λ q. results success true _ _ (invalidates (Scene key) _ _ (removes t sd (word_of key) i q))
+        | None ↦ λ q. results not_found false t (view_of t) (itself t sd)
       ]) refl))
 
   pub remove_all_acts : (g : ℕ) (m : Membership) → gate_of f e (remove_all g m) ≡ success

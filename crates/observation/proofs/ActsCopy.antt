@@ -12,8 +12,7 @@ use lib.Seq.{drop-cons}
 use borrow.Author.Tests.{eqb-true, eqb-false, eq-eqb, ne_eqb, ltb-true, ltb-false}
 use Rattle.words.specs.Constants.{success, insufficient_space, not_found, max_fields, stride}
 use Rattle.words.specs.Words.{word_of, scene_of, within, group_keys}
-use Rattle.words.specs.declared.Found.{Found}
-use Rattle.words.specs.declared.Found.TheVariants.{At, Nothing}
+use Rattle.std.specs.Prelude.{Option, Some, None, is_some}
 use Rattle.words.specs.declared.SceneKey.{SceneKey}
 use Rattle.words.proofs.Ranges.{group_upper}
 use Rattle.slots.specs.Slots.{SceneEntry, entry_at, fields_at, length_at, first_key, key_sound}
@@ -34,7 +33,6 @@ use Rattle.copies.proofs.Laws.{room-free}
 use Rattle.observation.specs.Lists.{find, keep}
 use Rattle.observation.specs.Calls.{copy, command, step, does, of_result, CommandInRange, scene_key, group_key, copy_request}
 use Rattle.observation.specs.Equivalence.{key_is}
-use Rattle.image_gate.specs.Verdict.{is_found}
 use Rattle.observation.proofs.Lists.{has, put}
 use Rattle.observation.proofs.Lookups.{holds, found_at, entry_of}
 use Rattle.observation.proofs.Changes.{View, view_of, room_in, written, invalidated, written_all}
@@ -101,16 +99,16 @@ module _ (t : Table) (sd : sound t ≡ true) (i : ℕ) (l : i < t.state.entries)
   copy-short : length (fields_at t.slots.fields i) ≤ max_fields
   copy-short = omega (arith, (to_each t sd).length_at_lem i l, length-take (length_at t.slots.fields i) (drop (i * stride + 1) t.slots.fields))
 
-  may_is : may_copy t key ≡ (is_found (find_scene key t) || ltb 0 (room_for t.state t.slots.keys key.fabric))
+  may_is : may_copy t key ≡ (is_some (find_scene key t) || ltb 0 (room_for t.state t.slots.keys key.fabric))
   unfolding view_of
   may_is = ap₂ (λ (b : Bool) (n : ℕ). b || ltb 0 n) (entries_has t (word_of key)) (sym (room key.fabric t))
 
   copies : may_copy t key ≡ true → Walked t.records (copy_entry i key (its_entries t)) (success, written (copy_of t i key) (view_of t))
   unfolding copy_entry copy_to
   copies e =
-      (elim (find_scene key t) as (λ x. find_scene key t ≡ x → (is_found x || ltb 0 (room_for t.state t.slots.keys key.fabric)) ≡ true → Walked t.records (copy_to x i key (its_entries t)) (success, written (copy_of t i key) (view_of t))) [
-        | At p ↦ λ q m. record { status = refl; shows = writes_over key _ _ copy-short k t sd p q }
-        | Nothing ↦ λ q m.
+      (elim (find_scene key t) as (λ x. find_scene key t ≡ x → (is_some x || ltb 0 (room_for t.state t.slots.keys key.fabric)) ≡ true → Walked t.records (copy_to x i key (its_entries t)) (success, written (copy_of t i key) (view_of t))) [
+        | Some p ↦ λ q m. record { status = refl; shows = writes_over key _ _ copy-short k t sd p q }
+        | None ↦ λ q m.
             let h = ltb-true 0 (room_for t.state t.slots.keys key.fabric) m in
             let some : room_for t.state t.slots.keys key.fabric ≡ 0 → ⊥ = λ z. omega arith in
             rw (ne_eqb (room_for t.state t.slots.keys key.fabric) 0 some)
@@ -120,9 +118,9 @@ module _ (t : Table) (sd : sound t ≡ true) (i : ℕ) (l : i < t.state.entries)
   stuck : may_copy t key ≡ false → copy_entry i key (its_entries t) ≡ copied_of insufficient_space (its_entries t)
   unfolding copy_entry copy_to
   stuck e =
-      (elim (find_scene key t) as (λ x. (is_found x || ltb 0 (room_for t.state t.slots.keys key.fabric)) ≡ false → copy_to x i key (its_entries t) ≡ copied_of insufficient_space (its_entries t)) [
-        | At p ↦ λ m. absurd (false≢true (sym m))
-        | Nothing ↦ λ m. let h = ltb-false 0 (room_for t.state t.slots.keys key.fabric) m in rw (eq-eqb (room_for t.state t.slots.keys key.fabric) 0 (omega arith))
+      (elim (find_scene key t) as (λ x. (is_some x || ltb 0 (room_for t.state t.slots.keys key.fabric)) ≡ false → copy_to x i key (its_entries t) ≡ copied_of insufficient_space (its_entries t)) [
+        | Some p ↦ λ m. absurd (false≢true (sym m))
+        | None ↦ λ m. let h = ltb-false 0 (room_for t.state t.slots.keys key.fabric) m in rw (eq-eqb (room_for t.state t.slots.keys key.fabric) 0 (omega arith))
       ]) (sym may_is ∙ e)
 
 -- ---- the walk
@@ -272,12 +270,12 @@ module _ (f e g h : ℕ) (f₁ : 1 ≤ f) (hf : f < 2 ^ 8) (he : e < 2 ^ 16) (hg
 -- ---- one scene
 
 module _ (f e h r : ℕ) (f₁ : 1 ≤ f) (hf : f < 2 ^ 8) (he : e < 2 ^ 16) (hh : h < 2 ^ 16) (hr : r < 2 ^ 8) (t : Table) (sd : sound t ≡ true) where
-  one_scene_lem : (w : ℕ) (x : Found) → first_key t.slots.keys t.state.entries w ≡ x
+  one_scene_lem : (w : ℕ) (x : Option ℕ) → first_key t.slots.keys t.state.entries w ≡ x
       → Walked t.records (copy_found x (scene_key f e h r) (its_entries t))
       (walk_out f not_found (map (λ y. record { key = word_of (scene_key f e h r); time = y.time; fields = y.fields }) (first (found_at (entry_at t.slots) x))) (view_of t))
   unfolding copy_found written_all
-  one_scene_lem w Nothing q = record { status = refl; shows = itself t sd }
-  one_scene_lem w (At i) q =
+  one_scene_lem w None q = record { status = refl; shows = itself t sd }
+  one_scene_lem w (Some i) q =
       let key = scene_key f e h r in
       let l = found_under t.slots.keys t.state.entries w i q in
       let k = word_sound key f₁ hf he hh hr in

@@ -3,9 +3,9 @@ use Prim.Native.Nat.{ℕ}
 use mathlib.Core.Path.{◌≡◌, refl}
 use mathlib.Core.Bool.{true, false, cond}
 use mathlib.Core.List.{List, [], ◌∷◌}
-use mathlib.Core.Option.{Option, none, some}
 use native.Mathlib.Omega.{arith}
 use lib.ListN.{length, get_or}
+use Rattle.std.proofs.Common.{Option, Some, None}
 use Rattle.words.specs.Constants.{success, bad_image, clashing_image}
 use Rattle.words.proofs.Below.{every_intro}
 use Rattle.records.specs.Records.{record_sound, records_sound}
@@ -29,8 +29,8 @@ unfolding records_sound
 words-sound rs e = every_intro (λ i. record_sound (get_or rs i 0)) (length rs) (λ i l. each_at 0 record_sound rs i l e)
 
 module _ (t : Table) (sd : sound t ≡ true) (image : List ℕ) (bytes : Bytes image) where
-  restores : (i : Image) → image_in t.state.size image ≡ some i
-      → Shows (restored (some i) t) (record {
+  restores : (i : Image) → image_in t.state.size image ≡ Some i
+      → Shows (restored (Some i) t) (record {
         size = t.state.size;
         modes = t.state.modes;
         dataver = stepped t.state.dataver;
@@ -51,9 +51,9 @@ module _ (t : Table) (sd : sound t ≡ true) (image : List ℕ) (bytes : Bytes i
   judged : (o : Option Image) → image_in t.state.size image ≡ o
       → Acts (of_result (guarded (refused t) (refusal_of t (verdict o)) (result_of success false (restored o t)))) (decoded o (view_of t))
   unfolding verdict view_of
-  judged none e = acts_refused (refused t) t sd bad_image _ of_result _ (λ z. omega arith) (results bad_image false t (view_of t) (itself t sd))
-  judged (some i) e =
-      (elim (clashes i) as (λ b. Acts (of_result (guarded (refused t) (refusal_of t (cond b clashing_image success)) (result_of success false (restored (some i) t))))
+  judged None e = acts_refused (refused t) t sd bad_image _ of_result _ (λ z. omega arith) (results bad_image false t (view_of t) (itself t sd))
+  judged (Some i) e =
+      (elim (clashes i) as (λ b. Acts (of_result (guarded (refused t) (refusal_of t (cond b clashing_image success)) (result_of success false (restored (Some i) t))))
       (loaded_by b i (view_of t))) [
         | true ↦ acts_refused (refused t) t sd clashing_image _ of_result _ (λ z. omega arith) (results clashing_image false t (view_of t) (itself t sd))
         | false ↦ acts_passed (refused t) t sd success _ of_result _ refl (results success false _ _ (restores i e))

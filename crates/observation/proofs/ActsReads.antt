@@ -11,8 +11,7 @@ use borrow.Author.Tests.{lt-ltb}
 use Rattle.words.specs.Constants.{success, buffer_too_short, apply_failed, max_remaining}
 use Rattle.words.specs.Words.{word_of, valid_record, scene_of, within, fabric_keys, endpoint_keys, group_keys}
 use Rattle.words.specs.Below.{positions}
-use Rattle.words.specs.declared.Found.{Found}
-use Rattle.words.specs.declared.Found.TheVariants.{At, Nothing}
+use Rattle.std.specs.Prelude.{Option, Some, None}
 use Rattle.words.specs.declared.SceneKey.{SceneKey}
 use Rattle.words.proofs.Tests.{and_false}
 use Rattle.words.proofs.Ranges.{fabric-keys}
@@ -22,8 +21,8 @@ use Rattle.records.proofs.View.{sound-valid}
 use Rattle.requests.specs.declared.Membership.{Membership}
 use Rattle.commands.specs.declared.Applied.{Applied}
 use Rattle.commands.specs.declared.Applied.TheVariants.{Yes, Failed}
-use Rattle.reads.specs.declared.Transition.{Transition}
-use Rattle.reads.specs.declared.Transition.TheVariants.{Stored}
+use Rattle.reads.specs.Reads.{Transition}
+use Rattle.std.specs.Prelude.{None}
 use Rattle.state.specs.Table.{Table, entries_in}
 use Rattle.state.specs.Sound.{sound}
 use Rattle.state.specs.Capacity.{room_for, remaining, share_mode, places_for}
@@ -47,10 +46,10 @@ use Rattle.requests.proofs.Passed.{lookup-passed}
 
 -- ---- view and recall
 
-read-state : (t : Table) (o : Transition) (x : Found) → (read_at x o t).state ≡ t.state
+read-state : (t : Table) (o : Transition) (x : Option ℕ) → (read_at x o t).state ≡ t.state
 unfolding read_at
-read-state t o (At p) = refl
-read-state t o Nothing = refl
+read-state t o (Some p) = refl
+read-state t o None = refl
 
 module _ (t : Table) (sd : sound t ≡ true) where
   field_bytes_lem : (p : ℕ) → p < t.state.entries → field_bytes p t ≡ fields_at t.slots.fields p
@@ -59,25 +58,25 @@ module _ (t : Table) (sd : sound t ≡ true) where
 
   -- what was found, read
   module _ (key : SceneKey) where
-    found-bytes : (p : ℕ) → find_scene key t ≡ At p → field_bytes p t ≡ fields_at t.slots.fields p
+    found-bytes : (p : ℕ) → find_scene key t ≡ Some p → field_bytes p t ≡ fields_at t.slots.fields p
     found-bytes p q = field_bytes_lem p (found_under t.slots.keys t.state.entries (word_of key) p q)
 
-    views : (x : Found) → find_scene key t ≡ x → Acts (of_view (read_at x Stored t) t) (viewed (found_at (entry_at t.slots) x), view_of t)
+    views : (x : Option ℕ) → find_scene key t ≡ x → Acts (of_view (read_at x None t) t) (viewed (found_at (entry_at t.slots) x), view_of t)
     unfolding read_at
-    views (At p) q = record { seen = λ i. (record { status = success; save = false; values = get_or t.slots.times p 0 ∷ found-bytes p q i; ids = [] }, view_of t); stays = sd }
-    views Nothing q = record { seen = refl; stays = sd }
+    views (Some p) q = record { seen = λ i. (record { status = success; save = false; values = get_or t.slots.times p 0 ∷ found-bytes p q i; ids = [] }, view_of t); stays = sd }
+    views None q = record { seen = refl; stays = sd }
 
-    recalls : record_sound (valid_record key) ≡ true → (o : Transition) (a : Applied) (x : Found) → find_scene key t ≡ x
+    recalls : record_sound (valid_record key) ≡ true → (o : Transition) (a : Applied) (x : Option ℕ) → find_scene key t ≡ x
         → Acts (of_recall (read_at x o t) (recall_found x key a t) t) (recalled o a (found_at (entry_at t.slots) x), cond (found (found_at (entry_at t.slots) x) && applied a) (remembered key (view_of t)) (view_of t))
     unfolding read_at recall_found
-    recalls k o Yes (At p) q =
+    recalls k o Yes (Some p) q =
         let s = remembers key k t (view_of t) (record { view = refl; stays = sd }) in
         record { seen = λ i. (record { status = success; save = true; values = effective_time o (get_or t.slots.times p 0) ∷ found-bytes p q i; ids = [] }, s.view i); stays = s.stays }
-    recalls k o Failed (At p) q = record {
+    recalls k o Failed (Some p) q = record {
       seen = λ i. (record { status = apply_failed; save = false; values = effective_time o (get_or t.slots.times p 0) ∷ found-bytes p q i; ids = [] }, view_of t);
       stays = sd;
     }
-    recalls k o a Nothing q = record { seen = refl; stays = sd }
+    recalls k o a None q = record { seen = refl; stays = sd }
 
 -- ---- membership and info
 
@@ -119,17 +118,17 @@ module _ (t : Table) where
         | false ↦ record { seen = ap (λ (k : List ℕ). (record { status = success; save = false; values = n ∷ []; ids = k }, view_of t)) (take-append_seam l (drop (length l) buffer)); stays = sd }
       ]
 
-  informs : sound t ≡ true → (f n : ℕ) (x : Found)
+  informs : sound t ≡ true → (f n : ℕ) (x : Option ℕ)
       → Acts (of_info (info_row x f n t) t) (
         cond (eqb n 0 && not (found (found_at (λ i. get_or t.records i 0) x))) (shown [])
             (shown (row n (remaining t.state t.slots.keys f) f (found_at (λ i. get_or t.records i 0) x))),
         view_of t,
       )
   unfolding info_row
-  informs sd f n (At p) = rw (and_false (eqb n 0)) (record { seen = refl; stays = sd })
-  informs sd f n Nothing =
+  informs sd f n (Some p) = rw (and_false (eqb n 0)) (record { seen = refl; stays = sd })
+  informs sd f n None =
       (elim (eqb n 0) as (λ b. eqb n 0 ≡ b
-      → Acts (of_info (info_row Nothing f n t) t) (cond (eqb n 0 && true) (shown []) (shown (row n (remaining t.state t.slots.keys f) f none)), view_of t)) [
+      → Acts (of_info (info_row None f n t) t) (cond (eqb n 0 && true) (shown []) (shown (row n (remaining t.state t.slots.keys f) f none)), view_of t)) [
         | true ↦ λ q. rw q (record { seen = refl; stays = sd })
         | false ↦ λ q. rw q (record { seen = refl; stays = sd })
       ]) refl

@@ -4,6 +4,7 @@ use Prim.Native.Nat.{ℕ, min}
 use mathlib.Core.Bool.{Bool, true, false, cond, not, ◌&&◌}
 use mathlib.Core.List.{List, [], ◌∷◌, map}
 use mathlib.Core.Option.{Option, none, some}
+use Rattle.std.proofs.Common as std
 use lib.Dec.{eqb}
 use lib.ListN.{length}
 use Rattle.words.specs.Constants.{success, insufficient_space, not_found, apply_failed, bad_image, clashing_image, max_fields, max_shown, max_remaining}
@@ -15,7 +16,7 @@ use Rattle.records.specs.declared.Scope.TheVariants.{Scene, Group}
 use Rattle.requests.specs.Requests.{whole_group, add_gate, store_gate, lookup_gate, group_gate, copy_gate, info_gate}
 use Rattle.commands.specs.declared.Applied.{Applied}
 use Rattle.commands.specs.declared.Applied.TheVariants.{Yes, Failed}
-use Rattle.reads.specs.declared.Transition.{Transition}
+use Rattle.reads.specs.Reads.{Transition}
 use Rattle.state.specs.Table.{Table}
 use Rattle.reads.specs.Reads.{effective_time}
 use Rattle.image_reader.specs.Image.{Image, image_in}
@@ -131,10 +132,10 @@ abbrev pub loaded_by : Bool → Image → View → Seen
 loaded_by true i v = (refuse clashing_image, v)
 loaded_by false i v = (done false, record { size = v.size; modes = v.modes; dataver = stepped v.dataver; entries = i.entries; records = i.records })
 
--- what a load makes of what the bytes are read as
-abbrev pub decoded : Option Image → View → Seen
-decoded none v = (refuse bad_image, v)
-decoded (some i) v = loaded_by (clashes i) i v
+-- what a load makes of what the bytes are read as, which is an Option of the code's kind, std's
+abbrev pub decoded : std.Option Image → View → Seen
+decoded std.None v = (refuse bad_image, v)
+decoded (std.Some i) v = loaded_by (clashes i) i v
 
 -- a startup without a saved table
 abbrev pub started : View → Seen

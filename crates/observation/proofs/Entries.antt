@@ -10,7 +10,7 @@ use borrow.Author.Tests.{eqb-true, eqb-false}
 use Rattle.words.specs.Below.{positions}
 use Rattle.words.specs.Constants.{max_fields}
 use Rattle.words.specs.Words.{word_of, within}
-use Rattle.words.specs.declared.Found.TheVariants.{At, Nothing}
+use Rattle.std.specs.Prelude.{Some, None}
 use Rattle.words.specs.declared.KeyRange.{KeyRange}
 use Rattle.words.specs.declared.SceneKey.{SceneKey}
 use Rattle.slots.specs.Slots.{SceneEntry, entry_at, first_key, key_sound, put_slot, copy_slot, outside, gathered}
@@ -44,11 +44,11 @@ spare t = entry_at t.slots 0
 -- ---- where a key word stands
 
 module _ (t : Table) (k : ℕ) where
-  first_key_lem : (p : ℕ) → first_key t.slots.keys t.state.entries k ≡ At p → First (spare t) (key_is k) (entries_in t) p
+  first_key_lem : (p : ℕ) → first_key t.slots.keys t.state.entries k ≡ Some p → First (spare t) (key_is k) (entries_in t) p
   unfolding entries_in first_key
   first_key_lem p e = view_first (spare t) (entry_at t.slots) (key_is k) t.state.entries p e
 
-  no_key : first_key t.slots.keys t.state.entries k ≡ Nothing → Nowhere (spare t) (key_is k) (entries_in t)
+  no_key : first_key t.slots.keys t.state.entries k ≡ None → Nowhere (spare t) (key_is k) (entries_in t)
   unfolding entries_in first_key
   no_key e = view_nowhere (spare t) (entry_at t.slots) (key_is k) t.state.entries e
 
@@ -73,7 +73,7 @@ module _ (t : Table) (sd : sound t ≡ true) (key : SceneKey) (time : ℕ) (ext 
       ]) refl
 
   -- of a key that is there
-  module _ (p : ℕ) (e : find_scene key t ≡ At p) where
+  module _ (p : ℕ) (e : find_scene key t ≡ Some p) where
     known_under : p < t.state.entries
     known_under = found_under t.slots.keys t.state.entries (word_of key) p e
 
@@ -98,7 +98,7 @@ module _ (t : Table) (sd : sound t ≡ true) (key : SceneKey) (time : ℕ) (ext 
 
   -- of a new key
   module _ (h : t.state.entries < t.state.size) where
-    pub put-new : find_scene key t ≡ Nothing → entries_in (with_entries (append key time ext) t) ≡ put (key_is (word_of key)) (entry_of key time ext) (entries_in t)
+    pub put-new : find_scene key t ≡ None → entries_in (with_entries (append key time ext) t) ≡ put (key_is (word_of key)) (entry_of key time ext) (entries_in t)
     unfolding entries_in append
     put-new e =
         let n = t.state.entries in
@@ -147,7 +147,7 @@ module _ (t : Table) (sd : sound t ≡ true) (p : ℕ) (h : p < t.state.entries)
       (copy_last.entry ∙ sym (view_at (entry_at t.slots) (spare t) t.state.entries (t.state.entries - 1) last_under))
       (λ i l n. (copy_rest i l n).entry)
 
-module _ (t : Table) (sd : sound t ≡ true) (k p : ℕ) (e : first_key t.slots.keys t.state.entries k ≡ At p) where
+module _ (t : Table) (sd : sound t ≡ true) (k p : ℕ) (e : first_key t.slots.keys t.state.entries k ≡ Some p) where
   gone_under : p < t.state.entries
   gone_under = found_under t.slots.keys t.state.entries k p e
 

@@ -9,15 +9,15 @@ use lib.Dec.{eqb, ltb}
 use lib.ListN.{length}
 use borrow.Author.Tests.{lt-ltb, le-ltb, eqb-true, eqb-false}
 use Rattle.words.specs.Constants.{success, not_found, max_scenes, stride}
-use Rattle.words.specs.declared.Found.TheVariants.{At, Nothing}
+use Rattle.std.specs.Prelude.{Some, None}
 use Rattle.words.specs.Words.{word_of}
 use Rattle.words.specs.declared.SceneKey.{SceneKey}
 use Rattle.slots.specs.Slots.{length_at, fields_at}
 use Rattle.slots.proofs.Laws.{length_part}
 use Rattle.requests.specs.declared.Membership.{Membership}
 use Rattle.requests.specs.Requests.{lookup_gate}
-use Rattle.reads.specs.declared.Transition.{Transition}
-use Rattle.reads.specs.declared.Transition.TheVariants.{Stored}
+use Rattle.reads.specs.Reads.{Transition}
+use Rattle.std.specs.Prelude.{None}
 use Rattle.state.specs.Table.{Table}
 use Rattle.state.specs.Sound.{sound}
 use Rattle.state.specs.Change.{find_scene}
@@ -50,7 +50,7 @@ read_tied : (key : SceneKey) (t : Table) (o : Transition) → sound t ≡ true �
 unfolding read_at field_bytes
 read_tied key t o sd =
     (elim (find_scene key t) as (λ f. find_scene key t ≡ f → Tied key t (read_at f o t)) [
-      | At p ↦ λ e.
+      | Some p ↦ λ e.
           let l : p < t.state.entries = found_under t.slots.keys t.state.entries (word_of key) p e in
           record {
             found = λ _. e;
@@ -58,7 +58,7 @@ read_tied key t o sd =
             nothing = λ h. absurd (h refl);
             size = rw (sd, lt-ltb p t.state.entries l) (field_count t p sd l);
           }
-      | Nothing ↦ λ e. refused_tied key t not_found (λ z. omega arith)
+      | None ↦ λ e. refused_tied key t not_found (λ z. omega arith)
     ]) refl
 
 pub lookup_tied : (key : SceneKey) (m : Membership) (o : Transition) (t : Table) → Tied key t (recall_lookup key m o t)
@@ -76,4 +76,4 @@ lookup_tied key m o t =
 
 pub view_tied : (key : SceneKey) (m : Membership) (t : Table) → Tied key t (view_scene key m t)
 unfolding view_scene recall_lookup
-view_tied key m t = lookup_tied key m Stored t
+view_tied key m t = lookup_tied key m None t

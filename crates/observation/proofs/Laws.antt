@@ -11,7 +11,7 @@ use Rattle.words.specs.Words.{word_of, group_keys}
 use Rattle.records.specs.declared.Scope.TheVariants.{Scene, Group, Endpoint}
 use Rattle.requests.specs.declared.Membership.{Membership}
 use Rattle.commands.specs.declared.Applied.{Applied}
-use Rattle.reads.specs.declared.Transition.{Transition}
+use Rattle.reads.specs.Reads.{Transition}
 use Rattle.state.specs.Table.{Table}
 use Rattle.state.specs.Sound.{sound}
 use Rattle.observation.specs.Lists.{find, keep}

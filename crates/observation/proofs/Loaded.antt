@@ -3,24 +3,23 @@ use Prim.Native.Nat.{ℕ, zero, suc, ◌+◌, ◌^◌, ◌≤◌, ◌<◌}
 use mathlib.Core.Path.{◌≡◌, refl, sym, ap, subst, ◌∙◌}
 use mathlib.Core.Bool.{Bool, true, false, cond, false≢true}
 use mathlib.Core.List.{List, [], ◌∷◌, map}
-use mathlib.Core.Option.{some}
 use native.Mathlib.Omega.{arith}
 use lib.Dec.{eqb, leb}
 use lib.ListN.{length, get_or, length-map, get_or-map}
 use lib.Seq.{take_all}
 use borrow.Author.Tests.{eqb-true, eqb-false, leb-true, leb-false, le-ltb}
+use Rattle.std.proofs.Common.{Some}
 use Rattle.words.specs.Constants.{max_scenes, max_fields}
 use Rattle.words.specs.Words.{fabric_of, scene_of, key_of_record}
 use Rattle.words.specs.Below.{positions, any_below, count_below}
-use Rattle.words.specs.declared.Found.{Found}
-use Rattle.words.specs.declared.Found.TheVariants.{At, Nothing}
+use Rattle.std.specs.Prelude.{Option, Some, None, is_some}
 use Rattle.words.proofs.Tests.{and_left, and_right, neither_left, neither_right}
 use Rattle.words.proofs.Below.{first_nothing}
 use Rattle.slots.specs.Slots.{SceneEntry, key_sound, first_key}
 use Rattle.records.specs.Records.{record_sound, first_owned}
 use Rattle.requests.specs.Requests.{reserved}
 use Rattle.image_reader.specs.Image.{Image, image_in}
-use Rattle.image_gate.specs.Verdict.{is_found, key_clashes, keys_clash, record_clashes, records_clash, keys_of, clashes}
+use Rattle.image_gate.specs.Verdict.{key_clashes, keys_clash, record_clashes, records_clash, keys_of, clashes}
 use Rattle.image_load.proofs.Restoring.{each, short}
 use Rattle.image_load.proofs.Decoding.{image_decoded}
 use Rattle.observation.specs.Lists.{bit, count}
@@ -57,9 +56,9 @@ once_below q (suc n) h =
       | false ↦ λ e. once_below q n (λ i l. h i (omega arith))
     ]) refl
 
-not_found_lem : (f : Found) → is_found f ≡ false → f ≡ Nothing
-not_found_lem (At p) e = absurd (false≢true (sym e))
-not_found_lem Nothing e = refl
+not_found_lem : (f : Option ℕ) → is_some f ≡ false → f ≡ None
+not_found_lem (Some p) e = absurd (false≢true (sym e))
+not_found_lem None e = refl
 
 -- how often a test holds of a list, by its positions
 count-list : (p : ℕ → Bool) (l : List ℕ) → count p l ≡ count_below (λ i. p (get_or l i 0)) (length l)
@@ -142,7 +141,7 @@ module _ (rs : List ℕ) (unclashed : records_clash rs ≡ false) where
 
 -- ---- the view
 
-pub loaded_inv : (n m d : ℕ) (image : List ℕ) (i : Image) → n ≤ max_scenes → Bytes image → image_in n image ≡ some i → clashes i ≡ false
+pub loaded_inv : (n m d : ℕ) (image : List ℕ) (i : Image) → n ≤ max_scenes → Bytes image → image_in n image ≡ Some i → clashes i ≡ false
     → Inv (record { size = n; modes = m; dataver = d; entries = i.entries; records = i.records })
 loaded_inv n m d image i small bytes e c =
     let h = image_decoded image (bytes_below image bytes) n i e in

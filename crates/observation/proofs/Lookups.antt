@@ -6,8 +6,7 @@ use mathlib.Core.List.{List}
 use mathlib.Core.Option.{Option, none, some}
 use lib.Dec.{ltb}
 use Rattle.words.specs.Words.{word_of, within, owns, valid_record}
-use Rattle.words.specs.declared.Found.{Found}
-use Rattle.words.specs.declared.Found.TheVariants.{At, Nothing}
+use Rattle.std.specs.Prelude.{Option as Maybe, Some, None}
 use Rattle.words.specs.declared.KeyRange.{KeyRange}
 use Rattle.words.specs.declared.SceneKey.{SceneKey}
 use Rattle.slots.specs.Slots.{SceneEntry}
@@ -27,9 +26,9 @@ owned_by fabric endpoint word = owns word fabric endpoint
 -- ---- positions
 
 -- what stands where something was found
-abbrev pub found_at : {A : Type 0} → (ℕ → A) → Found → Option A
-found_at g (At p) = some (g p)
-found_at g Nothing = none
+abbrev pub found_at : {A : Type 0} → (ℕ → A) → Maybe ℕ → Option A
+found_at g (Some p) = some (g p)
+found_at g None = none
 
 -- ---- writes
 

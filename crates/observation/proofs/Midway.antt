@@ -11,8 +11,7 @@ use lib.Seq.{paste, length-paste, drop-set-lt, get_or-drop}
 use borrow.Author.Tests.{eq-eqb, eqb-true, eqb-false, leb-true, leb-false}
 use Rattle.words.specs.Constants.{stride, max_fields, success, not_found, insufficient_space}
 use Rattle.words.specs.Words.{word_of, within}
-use Rattle.words.specs.declared.Found.{Found}
-use Rattle.words.specs.declared.Found.TheVariants.{At, Nothing}
+use Rattle.std.specs.Prelude.{Option, Some, None}
 use Rattle.words.specs.declared.SceneKey.{SceneKey}
 use Rattle.words.proofs.Below.{first_under, first_before}
 use Rattle.words.proofs.Tests.{and_left, and_right}
@@ -31,7 +30,7 @@ use Rattle.copies.specs.Copy.{Copied, copy_to, copy_entry, is_source, key_in, co
 use Rattle.state.proofs.Guard.{passed-sound}
 use Rattle.state.proofs.Laws.{found_under}
 use Rattle.copies.proofs.Laws.{sound-copy-room, room_bounds, entry_length_lem, room-free, copy-kept}
-use Rattle.observation.specs.Refusals.{copy, SameByte, Kept, in_target, PastSources, CopyOf, AlikeFrom, RanOut, Midway}
+use Rattle.observation.specs.Refusals.{SameByte, Kept, in_target, PastSources, CopyOf, AlikeFrom, RanOut, Midway}
 use Rattle.observation.proofs.Choices.{cond_elim}
 
 -- a byte before or behind what was written
@@ -216,14 +215,14 @@ module _ (c : CopyRequest) (t : Table) where
           }
 
     -- a target found behind the source would hide the source: it would have the same key word, and the source stand before it
-    found_late : (p : ℕ) → first_key e.slots.keys e.state.entries (word_of (target word)) ≡ At p → i < p → p < t.state.entries
+    found_late : (p : ℕ) → first_key e.slots.keys e.state.entries (word_of (target word)) ≡ Some p → i < p → p < t.state.entries
         → source (word_of (target word)) ≡ true → ⊥
     unfolding first_key
     found_late p f m _ q =
         false≢true (sym (first_before _ e.state.entries p f i m) ∙ eq-eqb word (word_of (target word)) (sym (own_target word src q)))
 
     -- the bytes at a target that was found are what they were, or those of an earlier copy; those behind the entries are what they were
-    found-held : (p : ℕ) → first_key e.slots.keys e.state.entries (word_of (target word)) ≡ At p → Held p
+    found-held : (p : ℕ) → first_key e.slots.keys e.state.entries (word_of (target word)) ≡ Some p → Held p
     unfolding first_key
     found-held p f b l q =
         let u = first_under _ e.state.entries p f in
@@ -241,7 +240,7 @@ module _ (c : CopyRequest) (t : Table) where
     stays : After e
     stays = (left, (λ j m k q. coming j (omega arith) k q))
 
-    over : (p : ℕ) → first_key e.slots.keys e.state.entries (word_of (target word)) ≡ At p
+    over : (p : ℕ) → first_key e.slots.keys e.state.entries (word_of (target word)) ≡ Some p
         → EntryRoom (record { state = e.state; slots = wrote p }) → After (record { state = e.state; slots = wrote p })
     over p f r =
         let n = e.state.entries in
@@ -267,11 +266,11 @@ module _ (c : CopyRequest) (t : Table) where
     unfolding copy_entry copy_to put_at append
     turn =
         let key : SceneKey = target word in
-        let f : Found = first_key e.slots.keys e.state.entries (word_of key) in
+        let f : Option ℕ = first_key e.slots.keys e.state.entries (word_of key) in
         let room : ℕ = room_for e.state e.slots.keys key.fabric in
         (elim f as (λ x. f ≡ x → EntryRoom (copy_to x i key e).entries → After (copy_to x i key e).entries) [
-          | At p ↦ λ q r. over p q r
-          | Nothing ↦ λ q r.
+          | Some p ↦ λ q r. over p q r
+          | None ↦ λ q r.
               cond_elim (λ (o : Copied). EntryRoom o.entries → After o.entries) (eqb room 0) (λ _ _. stays)
               (λ z k. behind (room-free e.state e.slots.keys key.fabric (eqb-false room 0 z)) k) r
         ]) refl (copy-kept i key e left.room (omega (arith, left.entries))).room

@@ -2,13 +2,12 @@
 use Prim.Native.Nat.{ℕ, zero, suc}
 use mathlib.Core.Path.{◌≡◌, refl, ap, ◌∙◌}
 use mathlib.Core.List.{List, [], ◌∷◌}
-use mathlib.Core.Option.{Option, none, some}
 use lib.Dec.{eqb, ltb}
 use lib.ListN.{length, get_or}
+use Rattle.std.proofs.Common.{Option, Some, None}
 use Rattle.words.specs.Constants.{success}
 use Rattle.words.specs.Words.{word_of, group_keys}
-use Rattle.words.specs.declared.Found.{Found}
-use Rattle.words.specs.declared.Found.TheVariants.{At, Nothing}
+use Rattle.std.specs.Prelude.{Option as Maybe, Some, None}
 use Rattle.words.specs.declared.SceneKey.{SceneKey}
 use Rattle.words.specs.declared.GroupKey.{GroupKey}
 use Rattle.slots.specs.Slots.{first_key}
@@ -17,7 +16,7 @@ use Rattle.requests.specs.declared.CopyRequest.{CopyRequest}
 use Rattle.requests.specs.Requests.{whole_group}
 use Rattle.commands.specs.declared.Applied.{Applied}
 use Rattle.commands.specs.declared.Applied.TheVariants as applied
-use Rattle.reads.specs.declared.Transition.{Transition}
+use Rattle.reads.specs.Reads.{Transition}
 use Rattle.reads.specs.declared.SceneRead.{SceneRead}
 use Rattle.reads.specs.declared.InfoRead.{InfoRead}
 use Rattle.state.specs.declared.ScenesState.{ScenesState}
@@ -64,35 +63,35 @@ module _ (t : Table) where
   unfolding stored remember_current
   stored_modes key u e = either (λ (r : Result). Of t (after r)) (eqb u.status success) e e
 
-  removed_modes : (f : Found) (key : SceneKey) → Of t (after (remove_found f key t))
+  removed_modes : (f : Maybe ℕ) (key : SceneKey) → Of t (after (remove_found f key t))
   unfolding remove_found swap_remove invalidate_current
-  removed_modes (At p) key = refl
-  removed_modes Nothing key = refl
+  removed_modes (Some p) key = refl
+  removed_modes None key = refl
 
-  recalled_modes : (f : Found) (key : SceneKey) (a : Applied) → Of t (after (recall_found f key a t))
+  recalled_modes : (f : Maybe ℕ) (key : SceneKey) (a : Applied) → Of t (after (recall_found f key a t))
   unfolding recall_found remember_current
-  recalled_modes Nothing key a = refl
-  recalled_modes (At p) key applied.Failed = refl
-  recalled_modes (At p) key applied.Yes = refl
+  recalled_modes None key a = refl
+  recalled_modes (Some p) key applied.Failed = refl
+  recalled_modes (Some p) key applied.Yes = refl
 
-  read_modes : (f : Found) (o : Transition) → Of t (read_at f o t).state
+  read_modes : (f : Maybe ℕ) (o : Transition) → Of t (read_at f o t).state
   unfolding read_at
-  read_modes (At p) o = refl
-  read_modes Nothing o = refl
+  read_modes (Some p) o = refl
+  read_modes None o = refl
 
   list_modes : (l : List ℕ) (left : ℕ) (buffer : List ℕ) → Of t (list_ids l left buffer t).read.state
   unfolding list_ids
   list_modes l left buffer = either (λ (x : Listed). Of t x.read.state) (ltb (length buffer) (length l)) refl refl
 
-  row_modes : (f : Found) (fabric n : ℕ) → Of t (info_row f fabric n t).state
+  row_modes : (f : Maybe ℕ) (fabric n : ℕ) → Of t (info_row f fabric n t).state
   unfolding info_row
-  row_modes (At p) fabric n = refl
-  row_modes Nothing fabric n = either (λ (r : InfoRead). Of t r.state) (eqb n 0) refl refl
+  row_modes (Some p) fabric n = refl
+  row_modes None fabric n = either (λ (r : InfoRead). Of t r.state) (eqb n 0) refl refl
 
   restored_modes : (o : Option Image) → Of t (restored o t).state
   unfolding restored
-  restored_modes none = refl
-  restored_modes (some i) = refl
+  restored_modes None = refl
+  restored_modes (Some i) = refl
 
 -- ---- copies
 
@@ -100,17 +99,17 @@ entry_modes : (i : ℕ) (key : SceneKey) (e : Entries) → (copy_entry i key e).
 unfolding copy_entry copy_to put_at append
 entry_modes i key e = go (first_key e.slots.keys e.state.entries (word_of key))
   where
-    go : (f : Found) → (copy_to f i key e).entries.state.modes ≡ e.state.modes
-    go (At p) = refl
-    go Nothing = either (λ (o : Copied). o.entries.state.modes ≡ e.state.modes) (eqb (room_for e.state e.slots.keys key.fabric) 0) refl refl
+    go : (f : Maybe ℕ) → (copy_to f i key e).entries.state.modes ≡ e.state.modes
+    go (Some p) = refl
+    go None = either (λ (o : Copied). o.entries.state.modes ≡ e.state.modes) (eqb (room_for e.state e.slots.keys key.fabric) 0) refl refl
 
 single_modes : (from to : SceneKey) (e : Entries) → (copy_single from to e).entries.state.modes ≡ e.state.modes
 unfolding copy_single copy_found
 single_modes from to e = go (first_key e.slots.keys e.state.entries (word_of from))
   where
-    go : (f : Found) → (copy_found f to e).entries.state.modes ≡ e.state.modes
-    go (At i) = entry_modes i to e
-    go Nothing = refl
+    go : (f : Maybe ℕ) → (copy_found f to e).entries.state.modes ≡ e.state.modes
+    go (Some i) = entry_modes i to e
+    go None = refl
 
 walk_modes : (from to : GroupKey) (k i s : ℕ) (e : Entries) → (copy_walk from to k i s e).entries.state.modes ≡ e.state.modes
 unfolding copy_walk

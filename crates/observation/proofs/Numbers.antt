@@ -2,14 +2,12 @@
 use Prim.Native.Nat.{ℕ, zero, suc, ◌+◌}
 use mathlib.Core.Path.{◌≡◌, refl, sym, subst}
 use mathlib.Core.Bool.{Bool, true, false, cond, not, ◌||◌}
-use mathlib.Core.Option.{Option}
 use mathlib.Core.List.{List, [], ◌∷◌, ◌++◌, map}
 use lib.Dec.{eqb, ltb, leb}
 use lib.ListN.{length, get_or}
 use Rattle.words.specs.Constants.{success, invalid_command, constraint_error, insufficient_space, not_found, no_fabric, membership_failed, capture_too_long, apply_failed, single_element, unsound, bad_pair, buffer_too_short, bad_image, clashing_image, bad_field_sets, not_scenable, cluster_unknown, global_scene, reserved_scene, max_time, max_fields}
 use Rattle.words.specs.Words.{word_of, group_keys, endpoint_keys}
-use Rattle.words.specs.declared.Found.{Found}
-use Rattle.words.specs.declared.Found.TheVariants.{At, Nothing}
+use Rattle.std.specs.Prelude.{Option as Maybe, Some, None}
 use Rattle.words.specs.declared.SceneKey.{SceneKey}
 use Rattle.words.specs.declared.GroupKey.{GroupKey}
 use Rattle.slots.specs.Slots.{first_key, count_keys}
@@ -19,7 +17,7 @@ use Rattle.requests.specs.declared.Membership.TheVariants.{Yes, No, Failed}
 use Rattle.requests.specs.declared.CopyRequest.{CopyRequest}
 use Rattle.requests.specs.Requests.{or_next, first_refusal, refuse_if, member_gate, pair_gate, pairs_gate, scene_gate, fields_gate, copied_gate, whole_group, add_gate, store_gate, lookup_gate, group_gate, copy_gate, info_gate, fabric_gate}
 use Rattle.commands.specs.declared.Applied.{Applied}
-use Rattle.reads.specs.declared.Transition.{Transition}
+use Rattle.reads.specs.Reads.{Transition}
 use Rattle.reads.specs.declared.SceneRead.{SceneRead}
 use Rattle.reads.specs.declared.InfoRead.{InfoRead}
 use Rattle.state.specs.Table.{Table, Entries, with_entries}
@@ -39,7 +37,7 @@ use Rattle.field_sets.specs.Reader.{sets_in, holds_pairs}
 use Rattle.add_read.specs.Adding.{field_sets_gate, add_read_gate, add_scene_read}
 use Rattle.lifecycle.specs.Lifecycle.{scenable_attribute_changed, removed_fabric, remove_for_fabric, factory_reset, startup, fail_safe}
 use Rattle.observation.specs.Numbers.{Among, failing}
-use mathlib.Core.Option as option
+use Rattle.std.proofs.Common.{Option, Some, None}
 
 -- what holds in both cases of a test
 pub either : {A : Type 0} (P : A → Type 0) (b : Bool) {x y : A} → P x → P y → P (cond b x y)
@@ -157,34 +155,34 @@ module _ (P : ℕ → Type 0) (done : P success) where
   unfolding upsert upsert_at
   upsert_is full key time ext t = go (find_scene key t)
     where
-      go : (f : Found) → P (upsert_at f key time ext t).status
-      go (At i) = done
-      go Nothing = either (λ (u : Upserted). P u.status) (may_append t.state t.slots.keys key.fabric) done full
+      go : (f : Maybe ℕ) → P (upsert_at f key time ext t).status
+      go (Some i) = done
+      go None = either (λ (u : Upserted). P u.status) (may_append t.state t.slots.keys key.fabric) done full
 
   stored_is : (key : SceneKey) (u : Upserted) → P u.status → P (stored key u).status
   unfolding stored
   stored_is key u p = either (λ (r : Result). P r.status) (eqb u.status success) done p
 
-  removed_is : P not_found → (f : Found) (key : SceneKey) (t : Table) → P (remove_found f key t).status
+  removed_is : P not_found → (f : Maybe ℕ) (key : SceneKey) (t : Table) → P (remove_found f key t).status
   unfolding remove_found
-  removed_is none (At i) key t = done
-  removed_is none Nothing key t = none
+  removed_is none (Some i) key t = done
+  removed_is none None key t = none
 
-  recalled_is : P not_found → P apply_failed → (f : Found) (key : SceneKey) (a : Applied) (t : Table) → P (recall_found f key a t).status
+  recalled_is : P not_found → P apply_failed → (f : Maybe ℕ) (key : SceneKey) (a : Applied) (t : Table) → P (recall_found f key a t).status
   unfolding recall_found
-  recalled_is none failed Nothing key a t = none
-  recalled_is none failed (At i) key applied.Failed t = failed
-  recalled_is none failed (At i) key applied.Yes t = done
+  recalled_is none failed None key a t = none
+  recalled_is none failed (Some i) key applied.Failed t = failed
+  recalled_is none failed (Some i) key applied.Yes t = done
 
-  read_is : P not_found → (f : Found) (o : Transition) (t : Table) → P (read_at f o t).status
+  read_is : P not_found → (f : Maybe ℕ) (o : Transition) (t : Table) → P (read_at f o t).status
   unfolding read_at
-  read_is none (At i) o t = done
-  read_is none Nothing o t = none
+  read_is none (Some i) o t = done
+  read_is none None o t = none
 
-  row_is : (f : Found) (fabric n : ℕ) (t : Table) → P (info_row f fabric n t).status
+  row_is : (f : Maybe ℕ) (fabric n : ℕ) (t : Table) → P (info_row f fabric n t).status
   unfolding info_row
-  row_is (At i) fabric n t = done
-  row_is Nothing fabric n t = either (λ (r : InfoRead). P r.status) (eqb n 0) done done
+  row_is (Some i) fabric n t = done
+  row_is None fabric n t = either (λ (r : InfoRead). P r.status) (eqb n 0) done done
 
   list_is : P buffer_too_short → (l : List ℕ) (left : ℕ) (buffer : List ℕ) (t : Table) → P (list_ids l left buffer t).read.status
   unfolding list_ids
@@ -195,9 +193,9 @@ module _ (P : ℕ → Type 0) (done : P success) where
     unfolding copy_entry copy_to
     entry_is i key e = go (first_key e.slots.keys e.state.entries (word_of key))
       where
-        go : (f : Found) → P (copy_to f i key e).status
-        go (At p) = done
-        go Nothing = either (λ (c : Copied). P c.status) (eqb (room_for e.state e.slots.keys key.fabric) 0) full done
+        go : (f : Maybe ℕ) → P (copy_to f i key e).status
+        go (Some p) = done
+        go None = either (λ (c : Copied). P c.status) (eqb (room_for e.state e.slots.keys key.fabric) 0) full done
 
     walk_is : (from to : GroupKey) (k i status : ℕ) (e : Entries) → P status → P (copy_walk from to k i status e).status
     unfolding copy_walk
@@ -212,9 +210,9 @@ module _ (P : ℕ → Type 0) (done : P success) where
     unfolding copy_single copy_found
     single_is from to e = go (first_key e.slots.keys e.state.entries (word_of from))
       where
-        go : (f : Found) → P (copy_found f to e).status
-        go (At i) = entry_is i to e
-        go Nothing = none
+        go : (f : Maybe ℕ) → P (copy_found f to e).status
+        go (Some i) = entry_is i to e
+        go None = none
 
     sources_are : (c : CopyRequest) (e : Entries) → P (copy_sources c e).status
     unfolding copy_sources
@@ -339,8 +337,8 @@ info-numbers fabric endpoint single t =
 -- what an image is answered
 verdict_is : (P : ℕ → Type 0) → P success → P bad_image → P clashing_image → (i : Option Image) → P (verdict i)
 unfolding verdict
-verdict_is P done nine ten option.none = nine
-verdict_is P done nine ten (option.some i) = either P (clashes i) ten done
+verdict_is P done nine ten None = nine
+verdict_is P done nine ten (Some i) = either P (clashes i) ten done
 
 module _ (t : Table) where
   -- a call without a request of its own answers 0 or 6

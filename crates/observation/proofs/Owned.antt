@@ -7,7 +7,7 @@ use native.Mathlib.Omega.{arith}
 use lib.Dec.{eqb}
 use lib.ListN.{length}
 use Rattle.words.specs.Constants.{success}
-use Rattle.reads.specs.declared.Transition.TheVariants.{Stored}
+use Rattle.std.specs.Prelude.{None}
 use Rattle.state.specs.Table.{Table, table_of, new_state, new_state_with, with_entry_count}
 use Rattle.state.specs.Sound.{sound}
 use Rattle.state.specs.Answer.{refusal_of, guarded}
@@ -30,7 +30,7 @@ call-sound : (c : HostCall) (t : Table) → HostInRange c → sound t ≡ true �
 call-sound (made c) t w sd = step-sound c t w sd
 call-sound (recall_looked_up key m o) t w sd = rw (lookup-state key m o t) sd
 call-sound (recall_ended key m a) t w sd =
-    let c = command key.fabric key.endpoint (recall key.group key.scene m Stored a) in
+    let c = command key.fabric key.endpoint (recall key.group key.scene m None a) in
     rw (← (runs c t).table) (step-sound c t (w.0, w.1, (w.2, w.3, omega arith)) sd)
 call-sound (image_saved buffer) t w sd = rw (save-state buffer t) sd
 call-sound (fields_read at) t w sd = sd

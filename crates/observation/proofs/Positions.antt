@@ -13,7 +13,7 @@ use lib.ListN.{length, take, get_or, set, length-append, length-map, length-set,
 use lib.Seq.{length-take-le, get_or-take, get_or_at, get_or-set_same, get_or-set_other, ext_get_or}
 use borrow.Author.Tests.{eqb-true, eqb-false}
 use Rattle.words.specs.Below.{positions, any_below, count_below, kept_below, first_below}
-use Rattle.words.specs.declared.Found.TheVariants.{At, Nothing}
+use Rattle.std.specs.Prelude.{Some, None}
 use Rattle.words.proofs.Below.{first_under, first_before, first_nothing}
 use Rattle.observation.specs.Lists.{bit, count, keep}
 use Rattle.observation.proofs.Lists.{found, has}
@@ -106,7 +106,7 @@ view-list l n h = view_ext 0 (λ i. get_or l i 0) n (take n l) (length-take-le n
 -- ---- where a test holds first
 
 module _ {A : Type 0} (d : A) (g : ℕ → A) (h : A → Bool) (n : ℕ) where
-  pub view_first : (p : ℕ) → first_below (λ i. h (g i)) n ≡ At p → First d h (map g (positions n)) p
+  pub view_first : (p : ℕ) → first_below (λ i. h (g i)) n ≡ Some p → First d h (map g (positions n)) p
   view_first p e =
       let u = first_under _ n p e in
       let l = view-length g n in
@@ -116,5 +116,5 @@ module _ {A : Type 0} (d : A) (g : ℕ → A) (h : A → Bool) (n : ℕ) where
         before = λ i k. ap h (view_at g d n i (omega arith)) ∙ first_before _ n p e i k;
       }
 
-  pub view_nowhere : first_below (λ i. h (g i)) n ≡ Nothing → Nowhere d h (map g (positions n))
+  pub view_nowhere : first_below (λ i. h (g i)) n ≡ None → Nowhere d h (map g (positions n))
   view_nowhere e i k = let m : i < n = omega (arith, view-length g n) in ap h (view_at g d n i m) ∙ first_nothing _ n e i m

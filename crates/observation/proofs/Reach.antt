@@ -3,10 +3,10 @@ use Prim.Native.Nat.{ℕ, ◌^◌, ◌<◌}
 use mathlib.Core.Path.{◌≡◌, refl, sym, subst}
 use mathlib.Core.Bool.{true, false}
 use mathlib.Core.List.{List, [], ◌∷◌}
-use mathlib.Core.Option.{Option, none, some}
 use lib.Dec.{eqb}
 use lib.ListN.{length}
 use borrow.Author.Tests.{eqb-true, eqb-false}
+use Rattle.std.proofs.Common.{Option, Some, None}
 use Rattle.words.specs.Constants.{max_fields}
 use Rattle.words.specs.Below.{positions}
 use Rattle.records.specs.declared.Scope.TheVariants.{Endpoint}
@@ -75,8 +75,8 @@ pub record Standing (t : Table) : Type 0 where
 
 -- a load that is refused leaves the view, and another one that of the image
 decoded_inv : (image : List ℕ) (v : View) → Bytes image → Inv v → (o : Option Image) → image_in v.size image ≡ o → Inv (decoded o v).1
-decoded_inv image v bytes inv none e = inv
-decoded_inv image v bytes inv (some i) e =
+decoded_inv image v bytes inv None e = inv
+decoded_inv image v bytes inv (Some i) e =
     (elim (clashes i) as (λ b. clashes i ≡ b → Inv (loaded_by b i v).1) [
       | true ↦ λ q. inv
       | false ↦ λ q. loaded_inv v.size v.modes (stepped v.dataver) image i inv.small bytes e q

@@ -11,7 +11,7 @@ use lib.Seq.{length-take-le, get_or-take}
 use borrow.Author.Tests.{ltb-true, ltb-false}
 use Rattle.words.specs.Below.{positions}
 use Rattle.words.specs.Words.{fabric_of, key_of_record, valid_record}
-use Rattle.words.specs.declared.Found.TheVariants.{At, Nothing}
+use Rattle.std.specs.Prelude.{Some, None, is_some}
 use Rattle.words.specs.declared.SceneKey.{SceneKey}
 use Rattle.records.specs.declared.Scope.{Scope}
 use Rattle.records.specs.Records.{record_sound, first_owned, records_of, remember, hits, any_hit, cleared, invalidated, others_of, moved}
@@ -20,7 +20,6 @@ use Rattle.state.specs.Table.{Table, entries_in, records_in, with_current, with_
 use Rattle.state.specs.Sound.{sound}
 use Rattle.state.specs.Current.{remember_current, invalidate_current}
 use Rattle.observation.specs.Lists.{bit, count, keep}
-use Rattle.image_gate.specs.Verdict.{is_found}
 use Rattle.observation.proofs.Lists.{has, put}
 use Rattle.observation.proofs.Lookups.{owned_by, with_record}
 use Rattle.observation.proofs.Counts.{both, count_le, count_map, count-put, count-keep, keep-map}
@@ -104,13 +103,13 @@ module _ (t : Table) (scope : Scope) where
 
 module _ (t : Table) (sd : sound t ≡ true) (key : SceneKey) where
   -- where the fabric's record stands
-  now_found : (p : ℕ) → first_owned t.records t.state.recorded key.fabric key.endpoint ≡ At p → First 0 (owned_by key.fabric key.endpoint) (records_in t) p
+  now_found : (p : ℕ) → first_owned t.records t.state.recorded key.fabric key.endpoint ≡ Some p → First 0 (owned_by key.fabric key.endpoint) (records_in t) p
   unfolding first_owned
   now_found p e =
       subst (λ (l : List ℕ). First 0 (owned_by key.fabric key.endpoint) l p) (records-list t sd)
       (view_first 0 (λ i. get_or t.records i 0) (owned_by key.fabric key.endpoint) t.state.recorded p e)
 
-  not_found_lem : first_owned t.records t.state.recorded key.fabric key.endpoint ≡ Nothing → Nowhere 0 (owned_by key.fabric key.endpoint) (records_in t)
+  not_found_lem : first_owned t.records t.state.recorded key.fabric key.endpoint ≡ None → Nowhere 0 (owned_by key.fabric key.endpoint) (records_in t)
   unfolding first_owned
   not_found_lem e =
       subst (Nowhere 0 (owned_by key.fabric key.endpoint)) (records-list t sd)
@@ -125,9 +124,9 @@ module _ (t : Table) (sd : sound t ≡ true) (key : SceneKey) where
       let l = t.records in
       let own = owned_by key.fabric key.endpoint in
       (elim (first_owned l n key.fabric key.endpoint) as (λ f. first_owned l n key.fabric key.endpoint ≡ f
-      → in_use (remember key size (records_of n l)) ≡ cond (is_found f || ltb n size) (put own (valid_record key) (take n l)) (take n l)) [
-        | At p ↦ λ e. over_view key size n l p e ∙ sym (put_first 0 own (valid_record key) (take n l) p (now_found p e))
-        | Nothing ↦ λ e.
+      → in_use (remember key size (records_of n l)) ≡ cond (is_some f || ltb n size) (put own (valid_record key) (take n l)) (take n l)) [
+        | Some p ↦ λ e. over_view key size n l p e ∙ sym (put_first 0 own (valid_record key) (take n l) p (now_found p e))
+        | None ↦ λ e.
             (elim (ltb n size) as (λ b. ltb n size ≡ b → in_use (remember key size (records_of n l)) ≡ cond b (put own (valid_record key) (take n l)) (take n l)) [
               | true ↦ λ q. behind-view key size n l e (ltb-true n size q) s.records ∙ sym (put_nowhere 0 own (valid_record key) (take n l) (not_found_lem e))
               | false ↦ λ q. dropped_view key size n l e (ltb-false n size q)

@@ -10,8 +10,7 @@ use lib.ListN.{length, get_or}
 use borrow.Author.Tests.{lt-ltb, ne_eqb, eqb-true, eqb-false}
 use Rattle.words.specs.Constants.{success, not_found, insufficient_space, bad_field_sets, max_fields}
 use Rattle.words.specs.Words.{word_of, group_keys}
-use Rattle.words.specs.declared.Found.{Found}
-use Rattle.words.specs.declared.Found.TheVariants.{At, Nothing}
+use Rattle.std.specs.Prelude.{Option, Some, None}
 use Rattle.words.specs.declared.SceneKey.{SceneKey}
 use Rattle.words.specs.declared.GroupKey.{GroupKey}
 use Rattle.words.proofs.Tests.{and_intro}
@@ -23,7 +22,7 @@ use Rattle.requests.specs.Requests.{whole_group, lookup_gate, copy_gate}
 use Rattle.state.specs.declared.ScenesState.{ScenesState}
 use Rattle.commands.specs.declared.Applied.{Applied}
 use Rattle.commands.specs.declared.Applied.TheVariants as applied
-use Rattle.reads.specs.declared.Transition.{Transition}
+use Rattle.reads.specs.Reads.{Transition}
 use Rattle.reads.specs.declared.SceneRead.{SceneRead}
 use Rattle.reads.specs.declared.InfoRead.{InfoRead}
 use Rattle.state.specs.Table.{Table, Entries, with_entries}
@@ -78,9 +77,9 @@ module _ (t : Table) where
   unfolding upsert upsert_at
   upsert-bare key time ext = go (find_scene key t)
     where
-      go : (f : Found) → ((upsert_at f key time ext t).status ≡ success → ⊥) → (upsert_at f key time ext t).table ≡ t
-      go (At p) = λ h. absurd (h refl)
-      go Nothing =
+      go : (f : Option ℕ) → ((upsert_at f key time ext t).status ≡ success → ⊥) → (upsert_at f key time ext t).table ≡ t
+      go (Some p) = λ h. absurd (h refl)
+      go None =
           either (λ (u : Upserted). (u.status ≡ success → ⊥) → u.table ≡ t) (may_append t.state t.slots.keys key.fabric)
           (λ h. absurd (h refl)) (λ _. refl)
 
@@ -92,21 +91,21 @@ module _ (t : Table) where
   stored-bare key u same =
       either (Refuses t) (eqb u.status success) (λ h. absurd (h refl)) (λ h i. record { status = u.status; save = false; table = same h i })
 
-  removed-bare : (f : Found) (key : SceneKey) → Refuses t (remove_found f key t)
+  removed-bare : (f : Option ℕ) (key : SceneKey) → Refuses t (remove_found f key t)
   unfolding remove_found
-  removed-bare (At p) key = λ h. absurd (h refl)
-  removed-bare Nothing key = λ _. refl
+  removed-bare (Some p) key = λ h. absurd (h refl)
+  removed-bare None key = λ _. refl
 
-  recalled-bare : (f : Found) (key : SceneKey) (a : Applied) → Refuses t (recall_found f key a t)
+  recalled-bare : (f : Option ℕ) (key : SceneKey) (a : Applied) → Refuses t (recall_found f key a t)
   unfolding recall_found
-  recalled-bare Nothing key a = λ _. refl
-  recalled-bare (At p) key applied.Failed = λ _. refl
-  recalled-bare (At p) key applied.Yes = λ h. absurd (h refl)
+  recalled-bare None key a = λ _. refl
+  recalled-bare (Some p) key applied.Failed = λ _. refl
+  recalled-bare (Some p) key applied.Yes = λ h. absurd (h refl)
 
-  found-bare : (f : Found) (o : Transition) → Unread t (read_at f o t)
+  found-bare : (f : Option ℕ) (o : Transition) → Unread t (read_at f o t)
   unfolding read_at
-  found-bare (At p) o = λ h. absurd (h refl)
-  found-bare Nothing o = λ _. refl
+  found-bare (Some p) o = λ h. absurd (h refl)
+  found-bare None o = λ _. refl
 
   module _ (buffer : List ℕ) where
     abbrev Unlisted : Listed → Type 0
@@ -119,10 +118,10 @@ module _ (t : Table) where
   abbrev NoRow : InfoRead → Type 0
   NoRow r = Bare (λ (r : InfoRead). r.status) (no_row t) r
 
-  row-bare : (f : Found) (fabric n : ℕ) → NoRow (info_row f fabric n t)
+  row-bare : (f : Option ℕ) (fabric n : ℕ) → NoRow (info_row f fabric n t)
   unfolding info_row
-  row-bare (At p) fabric n = λ h. absurd (h refl)
-  row-bare Nothing fabric n = either NoRow (eqb n 0) (λ h. absurd (h refl)) (λ h. absurd (h refl))
+  row-bare (Some p) fabric n = λ h. absurd (h refl)
+  row-bare None fabric n = either NoRow (eqb n 0) (λ h. absurd (h refl)) (λ h. absurd (h refl))
 
 -- ---- copies
 
@@ -132,9 +131,9 @@ entry_full : (i : ℕ) (key : SceneKey) (e : Entries) → ((copy_entry i key e).
 unfolding copy_entry copy_to
 entry_full i key e = go (first_key e.slots.keys e.state.entries (word_of key))
   where
-    go : (f : Found) → ((copy_to f i key e).status ≡ success → ⊥) → copy_to f i key e ≡ copied_of insufficient_space e
-    go (At p) = λ h. absurd (h refl)
-    go Nothing =
+    go : (f : Option ℕ) → ((copy_to f i key e).status ≡ success → ⊥) → copy_to f i key e ≡ copied_of insufficient_space e
+    go (Some p) = λ h. absurd (h refl)
+    go None =
         either (λ (o : Copied). (o.status ≡ success → ⊥) → o ≡ copied_of insufficient_space e)
         (eqb (room_for e.state e.slots.keys key.fabric) 0) (λ _. refl) (λ h. absurd (h refl))
 
@@ -142,9 +141,9 @@ single_bare : (from to : SceneKey) (e : Entries) → ((copy_single from to e).st
 unfolding copy_single copy_found
 single_bare from to e = go (first_key e.slots.keys e.state.entries (word_of from))
   where
-    go : (f : Found) → ((copy_found f to e).status ≡ success → ⊥) → (copy_found f to e).entries ≡ e
-    go (At i) = λ h. ap (λ (o : Copied). o.entries) (entry_full i to e h)
-    go Nothing = λ _. refl
+    go : (f : Option ℕ) → ((copy_found f to e).status ≡ success → ⊥) → (copy_found f to e).entries ≡ e
+    go (Some i) = λ h. ap (λ (o : Copied). o.entries) (entry_full i to e h)
+    go None = λ _. refl
 
 -- a walk that ends otherwise than by 0 and by 0x89 met no source; s is not 0 before one is met, and then the entries are still those of u
 walk_bare : (from to : GroupKey) (u : Entries) (k i s : ℕ) (e : Entries) → ((s ≡ success → ⊥) → e ≡ u)
@@ -229,7 +228,7 @@ every_refusal (copy c m n) t h x = ap result (copy-bare c t m n x h)
 every_refusal (membership key m buffer) t h x =
     ap list (guarded-bare (λ (l : Listed). l.read.status) (unlisted buffer t) (λ _. refl) _ _ (ids-bare t buffer (scene_ids key t) _) h)
 every_refusal (info f e single) t h x =
-    let found : Found = first_owned t.records t.state.recorded f e in
+    let found : Option ℕ = first_owned t.records t.state.recorded f e in
     ap row (guarded-bare (λ (r : InfoRead). r.status) (no_row t) (λ _. refl) _ _ (row-bare t found f _) h)
 every_refusal (notice e) t h x = ap result (result-bare t _ _ (succeeded t _ refl) h)
 every_refusal (removal f) t h x = ap result (result-bare t _ _ (succeeded t _ refl) h)
@@ -273,9 +272,9 @@ unfolding recall_lookup guarded read_at
 lookup-state key m o t =
     either (λ (r : SceneRead). r.state ≡ t.state) (eqb (refusal_of t (lookup_gate key m)) success) (go (find_scene key t)) refl
   where
-    go : (f : Found) → (read_at f o t).state ≡ t.state
-    go (At p) = refl
-    go Nothing = refl
+    go : (f : Option ℕ) → (read_at f o t).state ≡ t.state
+    go (Some p) = refl
+    go None = refl
 
 -- what a call of a run answers and leaves is the outward call's
 pub record Runs (t : Table) (c : calls.Call) : Type 0 where

@@ -18,7 +18,7 @@ use Rattle.slots.specs.Slots.{SceneEntry}
 use Rattle.records.specs.declared.Scope.TheVariants.{Scene, Group}
 use Rattle.requests.specs.declared.Membership.{Membership}
 use Rattle.commands.specs.declared.Applied.{Applied}
-use Rattle.reads.specs.declared.Transition.{Transition}
+use Rattle.reads.specs.Reads.{Transition}
 use Rattle.observation.specs.Lists.{bit, count, find, keep}
 use Rattle.observation.specs.Calls.{Command, view, remove, remove_all, store, recall, membership, info, Answer, scene_key, group_key, CommandInRange}
 use Rattle.observation.specs.Equivalence.{key_is, Same, whole_copy, seen}

@@ -9,8 +9,7 @@ use lib.ListN.{length, get_or}
 use lib.Seq.{length-take-le}
 use Rattle.words.specs.Below.{positions, first_below}
 use Rattle.words.specs.Words.{within}
-use Rattle.words.specs.declared.Found.{Found}
-use Rattle.words.specs.declared.Found.TheVariants.{At, Nothing}
+use Rattle.std.specs.Prelude.{Option, Some, None, is_some}
 use Rattle.words.specs.declared.KeyRange.{KeyRange}
 use Rattle.words.proofs.Below.{first_under}
 use Rattle.slots.specs.Slots.{entry_at, first_key, count_keys}
@@ -21,7 +20,6 @@ use Rattle.state.specs.Sound.{sound}
 use Rattle.state.proofs.Laws.{sound-room}
 use Rattle.observation.specs.Lists.{count, find}
 use Rattle.observation.specs.Equivalence.{key_is}
-use Rattle.image_gate.specs.Verdict.{is_found}
 use Rattle.observation.proofs.Lists.{found, has}
 use Rattle.observation.proofs.Lookups.{holds, owned_by, found_at}
 use Rattle.observation.proofs.Counts.{count_map, has_map}
@@ -34,15 +32,15 @@ module _ {A : Type 0} (d : A) (g : ℕ → A) (h : A → Bool) (n : ℕ) where
   find-view : find h (map g (positions n)) ≡ found_at g (first_below (λ i. h (g i)) n)
   find-view =
       (elim (first_below (λ i. h (g i)) n) as (λ f. first_below (λ i. h (g i)) n ≡ f → find h (map g (positions n)) ≡ found_at g f) [
-        | At p ↦ λ e.
+        | Some p ↦ λ e.
             let f = view_first d g h n p e in
             find_first d h (map g (positions n)) p f ∙ ap some (view_at g d n p (first_under _ n p e).0)
-        | Nothing ↦ λ e. find_nowhere d h (map g (positions n)) (view_nowhere d g h n e)
+        | None ↦ λ e. find_nowhere d h (map g (positions n)) (view_nowhere d g h n e)
       ]) refl
 
-has_found : {A : Type 0} (g : ℕ → A) (f : Found) → found (found_at g f) ≡ is_found f
-has_found g (At p) = refl
-has_found g Nothing = refl
+has_found : {A : Type 0} (g : ℕ → A) (f : Option ℕ) → found (found_at g f) ≡ is_some f
+has_found g (Some p) = refl
+has_found g None = refl
 
 -- ---- the entries
 
@@ -62,7 +60,7 @@ module _ (t : Table) where
     unfolding entries_in first_key
     entries-find = find-view (entry_at t.slots 0) (entry_at t.slots) (key_is k) t.state.entries
 
-    pub entries_has : has (key_is k) (entries_in t) ≡ is_found (first_key t.slots.keys t.state.entries k)
+    pub entries_has : has (key_is k) (entries_in t) ≡ is_some (first_key t.slots.keys t.state.entries k)
     entries_has = ap found entries-find ∙ has_found (entry_at t.slots) (first_key t.slots.keys t.state.entries k)
 
 -- ---- the records
@@ -81,7 +79,7 @@ module _ (t : Table) (sd : sound t ≡ true) where
   records-find f e =
       ap (find (owned_by f e)) (sym records-list) ∙ find-view 0 (λ i. get_or t.records i 0) (owned_by f e) t.state.recorded
 
-  pub records_has : (f e : ℕ) → has (owned_by f e) (records_in t) ≡ is_found (first_owned t.records t.state.recorded f e)
+  pub records_has : (f e : ℕ) → has (owned_by f e) (records_in t) ≡ is_some (first_owned t.records t.state.recorded f e)
   records_has f e = ap found (records-find f e) ∙ has_found (λ i. get_or t.records i 0) (first_owned t.records t.state.recorded f e)
 
   pub records_hit : (scope : Scope) → any_hit scope t.records t.state.recorded ≡ has (hits scope) (records_in t)

@@ -9,8 +9,8 @@ use Rattle.requests.specs.declared.Membership.{Membership}
 use Rattle.requests.specs.declared.CopyRequest.{CopyRequest}
 use Rattle.state.specs.declared.ScenesState.{ScenesState}
 use Rattle.commands.specs.declared.Applied.{Applied}
-use Rattle.reads.specs.declared.Transition.{Transition}
-use Rattle.reads.specs.declared.Transition.TheVariants.{Stored, Given}
+use Rattle.reads.specs.Reads.{Transition}
+use Rattle.std.specs.Prelude.{None, Some}
 use Rattle.reads.specs.declared.SceneRead.{SceneRead}
 use Rattle.reads.specs.declared.InfoRead.{InfoRead}
 use Rattle.state.specs.Table.{Table}
@@ -147,8 +147,8 @@ abbrev pub Bytes : List ℕ → Type 0
 Bytes bs = count (λ b. leb (2 ^ 8) b) bs ≡ 0
 
 abbrev pub override : Transition → ℕ
-override Stored = 0
-override (Given o) = o
+override None = 0
+override (Some o) = o
 
 abbrev pub CommandInRange : Command → Type 0
 CommandInRange (add g s time m pairs ext) = (g < 2 ^ 16) × (s < 2 ^ 8) × (time < 2 ^ 32) × Bytes pairs × Bytes ext

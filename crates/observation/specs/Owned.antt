@@ -5,7 +5,7 @@ use Rattle.words.specs.Constants.{max_scenes, stride}
 use Rattle.words.specs.declared.SceneKey.{SceneKey}
 use Rattle.requests.specs.declared.Membership.{Membership}
 use Rattle.commands.specs.declared.Applied.{Applied}
-use Rattle.reads.specs.declared.Transition.{Transition}
+use Rattle.reads.specs.Reads.{Transition}
 use Rattle.state.specs.Table.{Table, table_of, new_state_with}
 use Rattle.state.specs.Sound.{sound}
 use Rattle.commands.specs.Commands.{recall_scene}

@@ -10,7 +10,7 @@ use Rattle.requests.specs.declared.Membership.{Membership}
 use Rattle.requests.specs.declared.CopyRequest.{CopyRequest}
 use Rattle.requests.specs.Requests.{whole_group}
 use Rattle.commands.specs.declared.Applied.{Applied}
-use Rattle.reads.specs.declared.Transition.{Transition}
+use Rattle.reads.specs.Reads.{Transition}
 use Rattle.reads.specs.declared.SceneRead.{SceneRead}
 use Rattle.reads.specs.declared.InfoRead.{InfoRead}
 use Rattle.state.specs.Table.{Table, with_entry_count}

@@ -4,14 +4,15 @@
 
 ghost use Rattle.std.specs.Prelude.{◌≡◌, true, false, ◌+◌, ◌*◌, ◌≤◌, min, length};
 ghost use Rattle.words.specs.Constants.{success, max_scenes, max_shown, stride};
+ghost use Rattle.words.specs.Refusals.{number_of};
 ghost use Rattle.slots.specs.Slots.{length_at};
 ghost use Rattle.state.specs.Table.{table_of};
 ghost use Rattle.state.specs.Sound.{sound};
-ghost use Rattle.reads.specs.Reads.{effective_time, view_scene, recall_lookup, field_bytes, listed_of, get_scene_membership, read_fabric_scene_info};
+ghost use Rattle.reads.specs.Reads.{rowless, effective_time, view_scene, recall_lookup, field_bytes, listed_of, get_scene_membership, read_fabric_scene_info};
 
 use requests::Membership;
 use state::ScenesState;
-use words::{EndpointKey, Fault, Found, GroupKey, KeyRange, Limits, SceneKey, Status};
+use words::{EndpointKey, GroupKey, KeyRange, Limits, Refusal, SceneKey, Status};
 
 // What a view, or the lookup of a recall, answers: the time, the entry's position, and how many field bytes it has. A refusal has time 0,
 // a position past any table's entries, and length 0. The head is in front, as in `Outcome`.
@@ -50,13 +51,6 @@ pub struct InfoRead {
     pub fabric: u8,
 }
 
-// The transition time of a recall: the stored one, or the request's override.
-#[derive(Clone, Copy)]
-pub enum Transition {
-    Stored,
-    Given(u32),
-}
-
 // The head of a table that is known to be sound.
 #[derive(Clone, Copy)]
 pub struct Reads {
@@ -74,6 +68,13 @@ impl SceneRead {
             len: 0,
             state,
         }
+    }
+
+    // The same, by the refusal itself.
+    pub fn refused_by(refusal: Refusal, state: ScenesState) -> SceneRead
+        ensures { result ≡ record { status = number_of refusal; time = 0; at = max_scenes; len = 0; state = state } }
+    {
+        SceneRead::refused(u8::from(refusal), state)
     }
 
     // The scene at a position.
@@ -103,22 +104,19 @@ impl ListRead {
             state,
         }
     }
+
+    // The same, by the refusal itself.
+    pub fn refused_by(refusal: Refusal, state: ScenesState) -> ListRead
+        ensures { result ≡ record { status = number_of refusal; remaining = 0; len = 0; state = state } }
+    {
+        ListRead::refused(u8::from(refusal), state)
+    }
 }
 
 impl InfoRead {
     // No row: a refusal, or a fabric that the table does not know.
     pub fn absent(status: u8, state: ScenesState) -> InfoRead
-        ensures { result ≡ record {
-          status = status;
-          present = false;
-          count = 0;
-          group = 0;
-          scene = 0;
-          valid = false;
-          remaining = 0;
-          fabric = 0;
-          state = state;
-        } }
+        ensures { result ≡ rowless status state }
     {
         InfoRead {
             status,
@@ -131,6 +129,13 @@ impl InfoRead {
             fabric: 0,
             state,
         }
+    }
+
+    // The same, by the refusal itself.
+    pub fn refused_by(refusal: Refusal, state: ScenesState) -> InfoRead
+        ensures { result ≡ rowless (number_of refusal) state }
+    {
+        InfoRead::absent(u8::from(refusal), state)
     }
 
     // A row: the count is cut to a byte.
@@ -155,11 +160,10 @@ impl InfoRead {
           state = state;
         } }
     {
-        let count = shown(count);
         InfoRead {
             status: Status::SUCCESS,
             present: true,
-            count,
+            count: count.min(Limits::MAX_SHOWN) as u8,
             group,
             scene,
             valid,
@@ -171,13 +175,10 @@ impl InfoRead {
 }
 
 // The override if there is one, else the stored time.
-fn effective_time(transition: Transition, time: u32) -> u32
+fn effective_time(transition: Option<u32>, time: u32) -> u32
     ensures { result ≡ effective_time transition time }
 {
-    match transition {
-        Transition::Stored => time,
-        Transition::Given(o) => o,
-    }
+    transition.unwrap_or(time)
 }
 
 impl Reads {
@@ -196,13 +197,12 @@ impl Reads {
             result ≡ view_scene key member table }
     {
         let state = self.state;
-        let gate = requests::lookup_gate(key, member);
-        if gate != Status::SUCCESS {
-            return SceneRead::refused(gate, state);
+        if let Err(refusal) = requests::lookup_gate(key, member) {
+            return SceneRead::refused_by(refusal, state);
         }
         let n = state.entries;
-        let Found::At(at) = slots::find(keys, n, key.word()) else {
-            return SceneRead::refused(Status::SC_NOT_FOUND, state);
+        let Some(at) = slots::find(keys, n, key.word()) else {
+            return SceneRead::refused_by(Refusal::NotFound, state);
         };
         let time = times[at];
         SceneRead::found(state, time, fields, at)
@@ -217,20 +217,19 @@ impl Reads {
         records: &[u64],
         key: SceneKey,
         member: Membership,
-        transition: Transition,
+        transition: Option<u32>,
     ) -> SceneRead
         requires { sound (table_of self.state keys.now times.now fields.now records.now) ≡ true }
         ensures { let table = table_of self.state keys.now times.now fields.now records.now in
             result ≡ recall_lookup key member transition table }
     {
         let state = self.state;
-        let gate = requests::lookup_gate(key, member);
-        if gate != Status::SUCCESS {
-            return SceneRead::refused(gate, state);
+        if let Err(refusal) = requests::lookup_gate(key, member) {
+            return SceneRead::refused_by(refusal, state);
         }
         let n = state.entries;
-        let Found::At(at) = slots::find(keys, n, key.word()) else {
-            return SceneRead::refused(Status::SC_NOT_FOUND, state);
+        let Some(at) = slots::find(keys, n, key.word()) else {
+            return SceneRead::refused_by(Refusal::NotFound, state);
         };
         let time = effective_time(transition, times[at]);
         SceneRead::found(state, time, fields, at)
@@ -272,9 +271,8 @@ impl Reads {
             listed_of result ids.new ≡ get_scene_membership key member ids.old table }
     {
         let state = self.state;
-        let gate = requests::group_gate(key, member);
-        if gate != Status::SUCCESS {
-            return ListRead::refused(gate, state);
+        if let Err(refusal) = requests::group_gate(key, member) {
+            return ListRead::refused_by(refusal, state);
         }
         let n = state.entries;
         let range = KeyRange::Group(key);
@@ -287,7 +285,7 @@ impl Reads {
                 state,
             };
         }
-        ListRead::refused(Fault::BUFFER_TOO_SHORT, state)
+        ListRead::refused_by(Refusal::BufferTooShort, state)
     }
 
     // The fabric's row of FabricSceneInfo on an endpoint, if it has an entry there or a record.
@@ -306,16 +304,15 @@ impl Reads {
             result ≡ read_fabric_scene_info fabric endpoint single table }
     {
         let state = self.state;
-        let gate = requests::info_gate(fabric, single);
-        if gate != Status::SUCCESS {
-            return InfoRead::absent(gate, state);
+        if let Err(refusal) = requests::info_gate(fabric, single) {
+            return InfoRead::refused_by(refusal, state);
         }
         let entries = state.entries;
         let recorded = state.recorded;
         let range = KeyRange::Endpoint(EndpointKey { fabric, endpoint });
         let count = slots::count(keys, entries, range);
         let remaining = state.remaining_capacity_for_fab(keys, fabric);
-        let Found::At(at) = records::find(records, recorded, fabric, endpoint) else {
+        let Some(at) = records::find(records, recorded, fabric, endpoint) else {
             if count == 0 {
                 return InfoRead::absent(Status::SUCCESS, state);
             }
@@ -328,14 +325,4 @@ impl Reads {
         let valid = words::is_valid(word);
         InfoRead::row(count, group, scene, valid, remaining, fabric, state)
     }
-}
-
-// What a byte can say of a count.
-fn shown(count: usize) -> u8
-    ensures { result ≡ min count max_shown }
-{
-    if count < Limits::MAX_SHOWN {
-        return count as u8;
-    }
-    Limits::MAX_SHOWN as u8
 }

@@ -7,10 +7,10 @@ use native.Mathlib.Omega.{arith}
 use native.Mathlib.Numerals.{add-one}
 use native.Mathlib.Nat.{not-suc-le-zero, le_of_suc-le-suc}
 use lib.Dec.{eqb}
-use lib.ListN.{length, get_or, set, drop, length-append, length-map}
+use lib.ListN.{length, get_or, set, take, drop, length-append, length-map}
 use lib.Seq.{drop-cons, set_at, append_snoc, get_or-append-add, get_or-drop}
 use borrow.Author.Tests.{lt-ltb, le-ltb, eq-eqb, ne_eqb}
-use Rattle.words.specs.declared.Found.TheVariants.{At, Nothing}
+use Rattle.std.specs.Prelude.{Some, None}
 use Rattle.words.specs.declared.GroupKey.{GroupKey}
 use Rattle.words.specs.declared.SceneKey.{SceneKey}
 use Rattle.words.specs.Words.{owns, fabric_of, group_of, scene_of, key_of_record, valid_record}
@@ -36,23 +36,23 @@ by_group scope key w o g e p q = rw (e, p, q)
 -- ---- remembering
 
 -- what was found is below n
-pub found_under : (l : List ℕ) (n fabric endpoint p : ℕ) → first_owned l n fabric endpoint ≡ At p → p < n
+pub found_under : (l : List ℕ) (n fabric endpoint p : ℕ) → first_owned l n fabric endpoint ≡ Some p → p < n
 unfolding first_owned
 found_under l n fabric endpoint p e = (first_under _ n p e).0
 
 module _ (key : SceneKey) (size n : ℕ) (l : List ℕ) where
   -- over the record that was found
-  pub remember_over : (p : ℕ) → first_owned l n key.fabric key.endpoint ≡ At p → records_of n (set l p (valid_record key)) ≡ remember key size (records_of n l)
+  pub remember_over : (p : ℕ) → first_owned l n key.fabric key.endpoint ≡ Some p → records_of n (set l p (valid_record key)) ≡ remember key size (records_of n l)
   unfolding remember remember_at
   remember_over p e = rw e
 
   -- behind the others
-  pub remember-behind : first_owned l n key.fabric key.endpoint ≡ Nothing → n < size → records_of (n + 1) (set l n (valid_record key)) ≡ remember key size (records_of n l)
+  pub remember-behind : first_owned l n key.fabric key.endpoint ≡ None → n < size → records_of (n + 1) (set l n (valid_record key)) ≡ remember key size (records_of n l)
   unfolding remember remember_at
   remember-behind e h = rw (e, lt-ltb n size h)
 
   -- the others fill the size
-  pub remember_dropped : first_owned l n key.fabric key.endpoint ≡ Nothing → size ≤ n → records_of n l ≡ remember key size (records_of n l)
+  pub remember_dropped : first_owned l n key.fabric key.endpoint ≡ None → size ≤ n → records_of n l ≡ remember key size (records_of n l)
   unfolding remember remember_at
   remember_dropped e h = rw (e, le-ltb n size h)
 
@@ -87,6 +87,13 @@ module _ (f : ℕ → ℕ) where
   map-keep (suc i) [] e = refl
   map-keep (suc i) (x ∷ l) e = ap (λ (r : List ℕ). f x ∷ r) (map-keep i l e)
 
+  -- the first n elements, and what stands behind them
+  map-front : (n : ℕ) (l : List ℕ) → map_first f n (take n l) ++ drop n l ≡ map_first f n l
+  unfolding map_first
+  map-front zero l = refl
+  map-front (suc n) [] = refl
+  map-front (suc n) (x ∷ l) = ap (λ (r : List ℕ). f x ∷ r) (map-front n l)
+
 -- ---- the loop of `clear`
 
 module _ (scope : Scope) (l : List ℕ) where
@@ -102,6 +109,10 @@ module _ (scope : Scope) (l : List ℕ) where
   pub invalidated_hit : (i : ℕ) → i < length l → hits scope (get_or l i 0) ≡ true → set (invalidated scope i l) i (key_of_record (get_or l i 0)) ≡ invalidated scope (i + 1) l
   unfolding invalidated
   invalidated_hit i h e = rw (add-one i, ← map-store (cleared scope) i l h, e)
+
+  pub invalidated_front : (n : ℕ) → invalidated scope n (take n l) ++ drop n l ≡ invalidated scope n l
+  unfolding invalidated
+  invalidated_front n = map-front (cleared scope) n l
 
   pub invalidated_miss : (i : ℕ) → hits scope (get_or l i 0) ≡ false → invalidated scope i l ≡ invalidated scope (i + 1) l
   unfolding invalidated

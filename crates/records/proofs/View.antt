@@ -9,8 +9,7 @@ use lib.Dec.{leb, ltb}
 use lib.ListN.{length, take, drop, get_or, set, length-append, length-drop, length-map, length-set}
 use lib.Seq.{take_at, take-set-lt, take-suc-set}
 use borrow.Author.Tests.{ltb-true, leb-true, lt-ltb, le-leb}
-use Rattle.words.specs.declared.Found.{Found}
-use Rattle.words.specs.declared.Found.TheVariants.{At, Nothing}
+use Rattle.std.specs.Prelude.{Option, Some, None}
 use Rattle.words.specs.declared.SceneKey.{SceneKey}
 use Rattle.words.specs.Words.{fabric_of, key_of_record, valid_record}
 use Rattle.words.proofs.Tests.{and_right, and_intro}
@@ -52,17 +51,17 @@ sound-valid key f₁ f e g s = sound_intro (valid_record key) (omega arith) (ome
 abbrev pub in_use : Records → List ℕ
 in_use r = take r.count r.words
 
-at_length : (f : Found) (key : SceneKey) (size : ℕ) (r : Records) → length (remember_at f key size r).words ≡ length r.words
+at_length : (f : Option ℕ) (key : SceneKey) (size : ℕ) (r : Records) → length (remember_at f key size r).words ≡ length r.words
 unfolding remember_at
-at_length (At p) key size r = length-set r.words p (valid_record key)
-at_length Nothing key size r =
+at_length (Some p) key size r = length-set r.words p (valid_record key)
+at_length None key size r =
     elim (ltb r.count size) as (λ b. length (cond {A = Records} b (records_of (r.count + 1) (set r.words r.count (valid_record key))) r).words ≡ length r.words)
     [ true ↦ length-set r.words r.count (valid_record key) | false ↦ refl ]
 
-at_count : (f : Found) (key : SceneKey) (size : ℕ) (r : Records) → r.count ≤ size → (remember_at f key size r).count ≤ size
+at_count : (f : Option ℕ) (key : SceneKey) (size : ℕ) (r : Records) → r.count ≤ size → (remember_at f key size r).count ≤ size
 unfolding remember_at
-at_count (At p) key size r h = h
-at_count Nothing key size r h =
+at_count (Some p) key size r h = h
+at_count None key size r h =
     (elim (ltb r.count size) as (λ b. ltb r.count size ≡ b → (cond {A = Records} b (records_of (r.count + 1) (set r.words r.count (valid_record key))) r).count ≤ size)
     [ true ↦ λ e. let l = ltb-true r.count size e in omega arith | false ↦ λ e. h ]) refl
 
@@ -79,20 +78,20 @@ module _ (key : SceneKey) (size : ℕ) (r : Records) where
 
 module _ (key : SceneKey) (size n : ℕ) (l : List ℕ) where
   -- the new record takes the place of its fabric's
-  pub over_view : (p : ℕ) → first_owned l n key.fabric key.endpoint ≡ At p → in_use (remember key size (records_of n l)) ≡ set (take n l) p (valid_record key)
+  pub over_view : (p : ℕ) → first_owned l n key.fabric key.endpoint ≡ Some p → in_use (remember key size (records_of n l)) ≡ set (take n l) p (valid_record key)
   over_view p e =
       let h : p < n = found_under l n key.fabric key.endpoint p e in
       ap in_use (sym (remember_over key size n l p e)) ∙ take-set-lt n l p (valid_record key) h
 
   -- the new record is the last
-  pub behind-view : first_owned l n key.fabric key.endpoint ≡ Nothing → n < size → size ≤ length l → in_use (remember key size (records_of n l)) ≡ take n l ++ (valid_record key ∷ [])
+  pub behind-view : first_owned l n key.fabric key.endpoint ≡ None → n < size → size ≤ length l → in_use (remember key size (records_of n l)) ≡ take n l ++ (valid_record key ∷ [])
   behind-view e h k =
       ap in_use (sym (remember-behind key size n l e h))
       ∙ ap (λ (m : ℕ). take m (set l n (valid_record key))) (add-one n)
       ∙ take-suc-set l n (valid_record key) (omega arith)
 
   -- nothing changes
-  pub dropped_view : first_owned l n key.fabric key.endpoint ≡ Nothing → size ≤ n → in_use (remember key size (records_of n l)) ≡ take n l
+  pub dropped_view : first_owned l n key.fabric key.endpoint ≡ None → size ≤ n → in_use (remember key size (records_of n l)) ≡ take n l
   dropped_view e h = ap in_use (sym (remember_dropped key size n l e h))
 
 -- ---- invalidating

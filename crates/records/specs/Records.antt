@@ -1,10 +1,8 @@
 -- The lent record words, and what remembering, invalidating and dropping records make of them.
 -- Document 01, "Modules, leaves first": Records; and "Lifecycle" for dropping a fabric's records.
-use Rattle.std.specs.Prelude.{ℕ, zero, suc, ◌+◌, ◌^◌, Bool, cond, not, ◌&&◌, List, [], ◌∷◌, ◌++◌, map, eqb, leb, ltb, length, get_or, set, drop}
+use Rattle.std.specs.Prelude.{ℕ, zero, suc, ◌+◌, ◌^◌, Bool, cond, not, ◌&&◌, List, [], ◌∷◌, ◌++◌, map, eqb, leb, ltb, length, get_or, set, drop, Option, Some, None}
 use Rattle.words.specs.Words.{fabric_of, endpoint_of, group_of, scene_of, key_of_record, is_valid, valid_record, owns}
 use Rattle.words.specs.Below.{every_below, any_below, first_below, kept_below}
-use Rattle.words.specs.declared.Found.{Found}
-use Rattle.words.specs.declared.Found.TheVariants.{At, Nothing}
 use Rattle.words.specs.declared.SceneKey.{SceneKey}
 use Rattle.records.specs.declared.Scope.{Scope}
 use Rattle.records.specs.declared.Scope.TheVariants.{Scene, Group, Endpoint}
@@ -19,7 +17,7 @@ records_sound records n = every_below (λ i. record_sound (get_or records i 0)) 
 -- ---- remembering
 
 -- the first of n records that a fabric, on an endpoint, owns
-unfoldable pub first_owned : List ℕ → ℕ → ℕ → ℕ → Found
+unfoldable pub first_owned : List ℕ → ℕ → ℕ → ℕ → Option ℕ
 first_owned records n fabric endpoint = first_below (λ i. owns (get_or records i 0) fabric endpoint) n
 
 -- how many record words count, and the whole lent list
@@ -31,9 +29,9 @@ abbrev pub records_of : ℕ → List ℕ → Records
 records_of n l = record { count = n; words = l }
 
 -- over the record that was found, else behind the last one, else dropped: the list is full
-unfoldable pub remember_at : Found → SceneKey → ℕ → Records → Records
-remember_at (At p) key size r = records_of r.count (set r.words p (valid_record key))
-remember_at Nothing key size r =
+unfoldable pub remember_at : Option ℕ → SceneKey → ℕ → Records → Records
+remember_at (Some p) key size r = records_of r.count (set r.words p (valid_record key))
+remember_at None key size r =
     cond (ltb r.count size) (records_of (r.count + 1) (set r.words r.count (valid_record key))) r
 
 -- the scene is now its fabric's valid current record, unless the list is full and has none of the fabric

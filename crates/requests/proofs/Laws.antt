@@ -2,14 +2,16 @@
 use Prim.Native.Nat.{ℕ, ◌+◌, ◌<◌, ◌≤◌}
 use mathlib.Core.Path.{◌≡◌, refl, sym, ap, ◌∙◌}
 use mathlib.Core.Bool.{true, false, cond}
-use mathlib.Core.List.{List, [], ◌∷◌, ◌++◌}
+use mathlib.Core.List.{List, [], ◌∷◌, ◌++◌, map}
 use native.Mathlib.Numerals.{add-one}
 use lib.Dec.{eqb}
 use lib.ListN.{length, drop, get_or, drop_of_length-le}
 use lib.Seq.{drop-cons}
-use borrow.Author.Tests.{eq-eqb, ne_eqb, lt-ltb, le-ltb, eqb-true, eqb-false}
-use Rattle.requests.specs.declared.Membership.{Membership}
-use Rattle.requests.specs.Requests.{or_next, first_refusal, answered, member_gate, pair_gate, pairs_gate}
+use borrow.Author.Tests.{eq-eqb, ne_eqb, eqb-true, eqb-false}
+use Rattle.words.specs.declared.Refusal.{Refusal}
+use Rattle.words.specs.Refusals.{number_of}
+use Rattle.words.proofs.Refusals.{refusal-number}
+use Rattle.requests.specs.Requests.{or_next, first_refusal, pair_gate, pairs_gate}
 
 pub next_pass : (a b : ℕ) → a ≡ 0 → or_next a b ≡ b
 unfolding or_next
@@ -22,10 +24,6 @@ next_refuse a b n = rw (ne_eqb a 0 n)
 pub next_last : (a : ℕ) → or_next a 0 ≡ a
 unfolding or_next
 next_last a = (elim (eqb a 0) as (λ t. eqb a 0 ≡ t → cond t 0 a ≡ a) [ true ↦ λ e. sym (eqb-true a 0 e) | false ↦ λ _. refl ]) refl
-
--- the first of two refusals, from what each is
-pub next_both : {r a b x y : ℕ} → r ≡ or_next a b → a ≡ x → b ≡ y → r ≡ or_next x y
-next_both e p q = e ∙ (λ i. or_next (p i) (q i))
 
 pub next_assoc : (a b c : ℕ) → or_next (or_next a b) c ≡ or_next a (or_next b c)
 next_assoc a b c =
@@ -40,42 +38,41 @@ unfolding first_refusal
 first_append [] ys = sym (next_pass 0 (first_refusal ys) refl)
 first_append (x ∷ xs) ys = ap (or_next x) (first_append xs ys) ∙ sym (next_assoc x (first_refusal xs) (first_refusal ys))
 
--- the tests of an add: the four that cost nothing, then the pairs and the fields
-module _ (a b c d e f : ℕ) where
-  two_parts : first_refusal (a ∷ b ∷ c ∷ d ∷ e ∷ f ∷ []) ≡ or_next (or_next a (or_next b (or_next c d))) (or_next e f)
-  unfolding first_refusal
-  two_parts = first_append (a ∷ b ∷ c ∷ d ∷ []) (e ∷ f ∷ []) ∙ rw (next_last d, next_last f)
+-- ---- from tests as the code makes them: each ends the list, or hands it on
 
-  pub refused_early : (or_next a (or_next b (or_next c d)) ≡ 0 → ⊥) → or_next a (or_next b (or_next c d)) ≡ first_refusal (a ∷ b ∷ c ∷ d ∷ e ∷ f ∷ [])
-  refused_early n = sym (two_parts ∙ next_refuse (or_next a (or_next b (or_next c d))) (or_next e f) n)
+-- a refusal is the first of a list that it begins, a test that is passed leaves the rest, and the last test decides
+pub refused_first : (r : Refusal) (rest : List ℕ) → first_refusal (number_of r ∷ rest) ≡ number_of r
+unfolding first_refusal
+refused_first r rest = next_refuse (number_of r) (first_refusal rest) (refusal-number r)
 
-  pub passed_early : or_next a (or_next b (or_next c d)) ≡ 0 → or_next e f ≡ first_refusal (a ∷ b ∷ c ∷ d ∷ e ∷ f ∷ [])
-  passed_early z = sym (two_parts ∙ next_pass (or_next a (or_next b (or_next c d))) (or_next e f) z)
+pub passed_first : (rest : List ℕ) → first_refusal (0 ∷ rest) ≡ first_refusal rest
+unfolding first_refusal
+passed_first rest = next_pass 0 (first_refusal rest) refl
 
--- the host's answer counts for a group other than 0
-pub asked : (group : ℕ) (member : Membership) → (group ≡ 0 → ⊥) → member_gate group member ≡ answered member
-unfolding member_gate
-asked group member n = rw (ne_eqb group 0 n)
+pub last_first : (a : ℕ) → first_refusal (a ∷ []) ≡ a
+unfolding first_refusal
+last_first a = next_last a
+
+-- what the code makes of a list of tests, one after the other
+pub ruleset first_refusals = (refused_first, passed_first, last_first)
 
 -- ---- pairs: the loop at position i has the rest of the list before it
 
 module _ (pairs : List ℕ) (i : ℕ) (h : i < length pairs) where
-  pairs_split : pairs_gate (drop i pairs) ≡ or_next (pair_gate (get_or pairs i 0)) (pairs_gate (drop (i + 1) pairs))
-  unfolding pairs_gate first_refusal
+  pairs_split : pairs_gate (drop i pairs) ≡ first_refusal (pair_gate (get_or pairs i 0) ∷ map pair_gate (drop (i + 1) pairs))
+  unfolding pairs_gate
   pairs_split = rw (add-one i, drop-cons pairs i 0 h)
 
-  pub pairs_zero : get_or pairs i 0 ≡ 0 → pairs_gate (drop i pairs) ≡ 0x85
-  unfolding or_next
-  pairs_zero e = pairs_split ∙ rw (eq-eqb _ _ e)
+  pub pairs_refused : (r : Refusal) → number_of r ≡ pair_gate (get_or pairs i 0) → pairs_gate (drop i pairs) ≡ number_of r
+  pairs_refused r e = pairs_split ∙ ap (λ p. first_refusal (p ∷ map pair_gate (drop (i + 1) pairs))) (sym e) ∙ refused_first r _
 
-  pub pairs_bad : (get_or pairs i 0 ≡ 0 → ⊥) → 2 < get_or pairs i 0 → pairs_gate (drop i pairs) ≡ 7
-  unfolding or_next
-  pairs_bad n l = pairs_split ∙ rw (ne_eqb _ _ n, lt-ltb _ _ l)
-
-  pub pairs_next : (get_or pairs i 0 ≡ 0 → ⊥) → get_or pairs i 0 ≤ 2 → pairs_gate (drop i pairs) ≡ pairs_gate (drop (i + 1) pairs)
-  unfolding or_next
-  pairs_next n l = pairs_split ∙ rw (ne_eqb _ _ n, le-ltb _ _ l)
+  pub pairs_passed : 0 ≡ pair_gate (get_or pairs i 0) → pairs_gate (drop i pairs) ≡ pairs_gate (drop (i + 1) pairs)
+  unfolding pairs_gate
+  pairs_passed e = pairs_split ∙ ap (λ p. first_refusal (p ∷ map pair_gate (drop (i + 1) pairs))) (sym e) ∙ passed_first _
 
 pub pairs_end : (pairs : List ℕ) (i : ℕ) → length pairs ≤ i → pairs_gate (drop i pairs) ≡ 0
 unfolding pairs_gate first_refusal
 pairs_end pairs i h = rw (drop_of_length-le pairs h)
+
+-- a turn of the loop over pairs
+pub ruleset pair_refusals = (pairs_refused, pairs_passed, pairs_end)

@@ -3,12 +3,11 @@
 use Prim.Native.Nat.{ℕ, suc, ◌+◌}
 use mathlib.Core.Path.{◌≡◌, refl, ap, subst, ◌∙◌}
 use mathlib.Core.List.{List, [], ◌∷◌, ◌++◌, append_assoc, flat_map}
-use mathlib.Core.Option.{Option, some}
 use native.Mathlib.Omega.{arith}
 use lib.Dec.{eqb-suc-zero}
 use lib.ListN.{length, length-append}
+use Rattle.std.proofs.Common.{Option, Some}
 use Rattle.tlv.specs.declared.elements.Element.{Element}
-use Rattle.tlv.specs.declared.passing.Next.TheVariants.{At}
 use Rattle.tlv.specs.declared.members.Step.TheVariants.{Member}
 use Rattle.tlv.specs.Types.{array_type, end_type}
 use Rattle.tlv.specs.Passing.{passed_from}
@@ -29,7 +28,7 @@ Every P (x ∷ xs) = P x × Every P xs
 
 -- a member of so many bytes stands at a position, and is read as x
 pub record Stands {A : Type 0} (read : ℕ → Option A) (b : List ℕ) (p n : ℕ) (x : A) : Type 0 where
-  pub taken : read p ≡ some x
+  pub taken : read p ≡ Some x
   pub element : Element
   pub member : member_at b p ≡ Member element (p + n)
   pub through : (level : ℕ) → passed_from b level p ≡ onward b level (p + n)
@@ -46,7 +45,7 @@ module _ {A : Type 0} (read : ℕ → Option A) (f : A → List ℕ) (Good : A �
       let g = subst (Holds b p) (append_assoc (f x) (flat_map f xs) (end_type ∷ [])) h in
       (holds_left b p (f x) (held xs) g, holds_right b p (f x) (held xs) g)
 
-  pub members_read_lem : (xs : List A) → Every Good xs → (p : ℕ) → Holds b p (held xs) → members_from read b p ≡ some xs
+  pub members_read_lem : (xs : List A) → Every Good xs → (p : ℕ) → Holds b p (held xs) → members_from read b p ≡ Some xs
   unfolding flat_map
   members_read_lem [] g p h =
       members_end read b p (member-ends b p (omega (arith, h.room)) _ (end_element_lem b p (holds_first b p end_type [] h) (omega (arith, h.room))) refl)
@@ -54,7 +53,7 @@ module _ {A : Type 0} (read : ℕ → Option A) (f : A → List ℕ) (Good : A �
       let q = first x xs p h in
       let s = stands x g.0 p q.0 in
       members_more read b p s.element (p + length (f x)) s.member x s.taken
-      ∙ ap (prepended (some x)) (members_read_lem xs g.1 (p + length (f x)) q.1)
+      ∙ ap (prepended (Some x)) (members_read_lem xs g.1 (p + length (f x)) q.1)
 
   members_through : (xs : List A) → Every Good xs → (p level : ℕ) → Holds b p (held xs)
       → passed_from b (suc level) p ≡ onward b level (p + length (held xs))
@@ -77,10 +76,10 @@ module _ {A : Type 0} (read : ℕ → Option A) (f : A → List ℕ) (Good : A �
     array-held : Holds b (p + 2) (held xs)
     array-held = holds_right b p (context tag array_type) (held xs) h
 
-    pub array_inside : inside_at array_type b p ≡ At (p + 2)
+    pub array_inside : inside_at array_type b p ≡ Some (p + 2)
     array_inside = tagged_inside b p tag array_type array_head (omega arith) (omega arith)
 
-    pub array-read : members_from read b (p + 2) ≡ some xs
+    pub array-read : members_from read b (p + 2) ≡ Some xs
     array-read = members_read_lem xs g (p + 2) array-held
 
     pub array-member : member_at b p
@@ -88,4 +87,4 @@ module _ {A : Type 0} (read : ℕ → Option A) (f : A → List ℕ) (Good : A �
     array-member =
         let e : p + 2 + length (held xs) ≡ p + length (array_bytes tag (flat_map f xs)) = omega (arith, length-append (context tag array_type) (held xs)) in
         member_goes b p (omega (arith, h.room)) _ (tagged_element b p tag array_type array_head (omega arith) (omega arith)) (λ z. omega arith) _
-        (tagged_through b p tag array_type array_head (omega arith) (omega arith) 0 ∙ members_through xs g (p + 2) 0 array-held ∙ ap At e)
+        (tagged_through b p tag array_type array_head (omega arith) (omega arith) 0 ∙ members_through xs g (p + 2) 0 array-held ∙ ap Some e)

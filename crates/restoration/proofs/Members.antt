@@ -2,11 +2,11 @@
 use Prim.Native.Nat.{ℕ, ◌+◌, ◌-◌, ◌^◌, ◌≤◌, ◌<◌}
 use mathlib.Core.Path.{◌≡◌, refl, ap, ◌∙◌}
 use mathlib.Core.List.{List, [], ◌∷◌, ◌++◌}
-use mathlib.Core.Option.{none, some}
 use native.Mathlib.Numerals.{add-one}
 use native.Mathlib.Omega.{arith}
 use lib.ListN.{length, length-append}
 use lib.Seq.{drop-cons}
+use Rattle.std.proofs.Common.{Some}
 use Rattle.words.specs.Constants.{max_fields}
 use Rattle.words.specs.Words.{fabric_of, endpoint_of, group_of, scene_of, key_of_record, is_valid}
 use Rattle.slots.specs.Slots.{SceneEntry, part}
@@ -17,7 +17,6 @@ use Rattle.tlv.specs.Encoding.{number_bytes, octets_bytes, bool_bytes, Holds}
 use Rattle.tlv.proofs.Passes.{onward}
 use Rattle.tlv.proofs.Codes.{number-length, octets-length}
 use Rattle.tlv.proofs.Trips.{holds_first, holds_rest}
-use Rattle.tlv.specs.Values.{counting}
 use Rattle.image_reader.specs.Entries.{entry_at, entry_in, record_at}
 use Rattle.image_writer.specs.Image.{key_bytes, entry_bytes, record_bytes}
 use Rattle.restoration.proofs.Trip.{key_end, fields_start, entry_end, record_end, entry_read, fields_stand, entry_through, entry-member}
@@ -95,7 +94,7 @@ module _ (b : List ℕ) where
       record {
         taken =
             ap (entry_in b) (entry_read b p e.key e.time e.fields h g.key g.fabric g.time g.fields)
-            ∙ ap (λ (x : List ℕ). some (record { key = e.key; time = e.time; fields = x }))
+            ∙ ap (λ (x : List ℕ). Some (record { key = e.key; time = e.time; fields = x }))
             (ap (λ (k : ℕ). part from k b) s ∙ holds_part b from e.fields stand);
         element = struct_element p;
         member = entry-member b p e.key e.time e.fields h g.key g.fields ∙ ap (Member (struct_element p)) q;
@@ -103,11 +102,11 @@ module _ (b : List ℕ) where
       }
 
   pub record_stands : (word : ℕ) → GoodRecord word → (p : ℕ) → Holds b p (record_bytes word)
-      → Stands (λ i. counting (record_at b i) none some) b p (length (record_bytes word)) word
+      → Stands (record_at b) b p (length (record_bytes word)) word
   record_stands word g p h =
       let q = record_length_lem word p in
       record {
-        taken = rw (record_read b p word h g.fabric g.below);
+        taken = record_read b p word h g.fabric g.below;
         element = struct_element p;
         member = record_member b p word h ∙ ap (Member (struct_element p)) q;
         through = λ level. record_through b p word h level ∙ ap (onward b level) q;

@@ -3,12 +3,12 @@ use Prim.Native.Nat.{ℕ, zero, suc, ◌+◌, ◌*◌, ◌^◌, ◌≤◌, ◌<�
 use mathlib.Core.Path.{◌≡◌, refl, sym, ap, ap₂, subst, ◌∙◌}
 use mathlib.Core.Bool.{true, false, cond}
 use mathlib.Core.List.{List, [], ◌∷◌, ◌++◌, map, map-append}
-use mathlib.Core.Option.{Option, some}
 use native.Mathlib.Omega.{arith}
 use lib.Dec.{eqb, leb, ltb}
 use lib.ListN.{length, take, drop, get_or, length-take}
 use lib.Seq.{take-append_seam}
 use borrow.Author.Tests.{leb-true, ltb-true, le-leb}
+use Rattle.std.proofs.Common.{Option, Some}
 use Rattle.words.specs.Constants.{success, unsound, clashing_image, stride, max_fields}
 use Rattle.words.specs.Words.{fabric_of, key_of_record}
 use Rattle.words.specs.Below.{positions}
@@ -74,7 +74,7 @@ module _ (t : Table) (g : Savable t) where
       }))
 
   -- its image is read as its entries and records
-  contents-read : image_in t.state.size (image_of t) ≡ some (contents t)
+  contents-read : image_in t.state.size (image_of t) ≡ Some (contents t)
   contents-read =
       let s = to_each t g.intact in
       image-read (entries_in t) (records_in t) good_entries good_records t.state.size
@@ -83,8 +83,8 @@ module _ (t : Table) (g : Savable t) where
 -- ---- restored
 
 -- what a load makes of bytes that are read as an image and that nothing refuses
-loads : (bytes : List ℕ) (u : Table) (i : Image) → sound u ≡ true → image_in u.state.size bytes ≡ some i → clashes i ≡ false
-    → load_image bytes u ≡ result_of success false (restored (some i) u)
+loads : (bytes : List ℕ) (u : Table) (i : Image) → sound u ≡ true → image_in u.state.size bytes ≡ Some i → clashes i ≡ false
+    → load_image bytes u ≡ result_of success false (restored (Some i) u)
 unfolding load_tlv verdict
 loads bytes u i s e c =
     let gate : image_gate u.state.size bytes ≡ success = rw (e, c) in
@@ -92,7 +92,7 @@ loads bytes u i s e c =
     ∙ passes (refused u) u s (image_gate u.state.size bytes) _ gate ∙ ap (λ (o : Option Image). result_of success false (restored o u)) e
 
 -- and what the table then has
-module _ (bytes : List ℕ) (u : Table) (i : Image) (s : sound u ≡ true) (e : image_in u.state.size bytes ≡ some i) (c : clashes i ≡ false)
+module _ (bytes : List ℕ) (u : Table) (i : Image) (s : sound u ≡ true) (e : image_in u.state.size bytes ≡ Some i) (c : clashes i ≡ false)
     (few : length i.entries ≤ u.state.size) (short-all : each short i.entries ≡ true) (held : length i.records ≤ u.state.size) where
   loaded-entries : entries_in (load_image bytes u).table ≡ i.entries
   loaded-entries = ap (λ (r : Result). entries_in r.table) (loads bytes u i s e c) ∙ restored-entries u s i few short-all
@@ -109,7 +109,7 @@ pub restores : Restores
 unfolding restored
 restores t u g s n =
     let b = to_each t g.intact in
-    let e : image_in u.state.size (image_of t) ≡ some (contents t) = subst (λ (k : ℕ). image_in k (image_of t) ≡ some (contents t)) n (contents-read t g) in
+    let e : image_in u.state.size (image_of t) ≡ Some (contents t) = subst (λ (k : ℕ). image_in k (image_of t) ≡ Some (contents t)) n (contents-read t g) in
     let l = loads (image_of t) u (contents t) s e g.unclashed in
     let few : length (entries_in t) ≤ u.state.size = omega (arith, entries-length t, b.entries, n) in
     let held : length (records_in t) ≤ u.state.size = omega (arith, records-length t g.intact, b.recorded, n) in
@@ -141,16 +141,16 @@ saved_restores t u buffer g s n room =
 -- ---- rewritten
 
 -- a load that answers 0 found a sound table and an image that does not clash
-accepted : (bytes : List ℕ) (t : Table) (i : Image) → image_in t.state.size bytes ≡ some i → (load_tlv bytes t).status ≡ success
+accepted : (bytes : List ℕ) (t : Table) (i : Image) → image_in t.state.size bytes ≡ Some i → (load_tlv bytes t).status ≡ success
     → (sound t ≡ true) × (clashes i ≡ false)
 unfolding load_tlv guarded refusal_of verdict
 accepted bytes t i e =
     rw e
     (elim (sound t) as (λ b. sound t ≡ b
-    → (cond (eqb (cond b (cond (clashes i) clashing_image success) unsound) success) (result_of success false (restored (some i) t))
+    → (cond (eqb (cond b (cond (clashes i) clashing_image success) unsound) success) (result_of success false (restored (Some i) t))
     (refused t (cond b (cond (clashes i) clashing_image success) unsound))).status ≡ success → (b ≡ true) × (clashes i ≡ false)) [
       | true ↦ λ s.
-          (elim (clashes i) as (λ c. (cond (eqb (cond c clashing_image success) success) (result_of success false (restored (some i) t))
+          (elim (clashes i) as (λ c. (cond (eqb (cond c clashing_image success) success) (result_of success false (restored (Some i) t))
           (refused t (cond c clashing_image success))).status ≡ success → (true ≡ true) × (c ≡ false)) [
             | true ↦ λ q. absurd (omega arith)
             | false ↦ λ q. (refl, refl)

@@ -7,15 +7,14 @@ use native.Mathlib.Omega.{arith}
 use lib.Dec.{leb, eqb-suc-zero}
 use lib.ListN.{length, length-append}
 use borrow.Author.Tests.{ne_eqb, le-leb, leb-true, leb-false}
+use Rattle.std.proofs.Common.{Some}
 use Rattle.words.specs.Words.{fabric_of, endpoint_of, group_of, scene_of, key_of, key_of_record, is_valid}
-use Rattle.tlv.specs.declared.values.Number.TheVariants.{Value}
-use Rattle.tlv.specs.declared.values.Boolean.TheVariants.{Is}
-use Rattle.tlv.specs.declared.values.Octets.TheVariants.{Span}
 use Rattle.tlv.specs.declared.members.Step.TheVariants.{Member}
 use Rattle.words.specs.Constants.{max_fields}
 use Rattle.tlv.specs.Types.{struct_type, end_type}
 use Rattle.tlv.specs.Elements.{width}
 use Rattle.tlv.specs.Passing.{passed_from}
+use Rattle.tlv.specs.Values.{span}
 use Rattle.tlv.specs.Members.{member_at, found_from}
 use Rattle.tlv.specs.Encoding.{smallest, number_bytes, octets_bytes, bool_bytes, number_size, octets_size, Holds}
 use Rattle.tlv.proofs.Passes.{onward}
@@ -24,7 +23,6 @@ use Rattle.tlv.proofs.Walks.{member_goes, find-tag, find-other}
 use Rattle.tlv.proofs.Trips.{holds_left, holds_right, holds_first, smallest_u8, smallest_u16, smallest_u32}
 use Rattle.tlv.proofs.Trips.{number-member, number-held, number_through, bool_member, bool_held, bool_through}
 use Rattle.tlv.proofs.Trips.{octets-member, octets-held, octets_stand, octets_through, open_inside, open_through, end_through, open_element_lem}
-use Rattle.image_reader.specs.declared.Entry.TheVariants.{Scene}
 use Rattle.image_reader.specs.Entries.{member_number, member_bool, member_octets, key_from, entry_at, record_at}
 use Rattle.image_writer.specs.Image.{key_bytes, entry_bytes, record_bytes}
 
@@ -99,35 +97,35 @@ module _ (b : List ℕ) (p key : ℕ) (h : Holds b p (key_bytes key)) (l : key <
   past-key : (tag : ℕ) → 3 < tag → found_from tag b p ≡ found_from tag b p4
   past-key tag z = past2 tag (omega arith) ∙ find-other tag b p3 _ _ (number-member b p3 3 (scene_of key) h3) (λ e. omega arith) refl
 
-  fabric-read : member_number 0 4 b p ≡ Value (fabric_of key)
+  fabric-read : member_number 0 4 b p ≡ Some (fabric_of key)
   unfolding member_number
   fabric-read =
       rw (find-tag 0 b p _ _ (number-member b p 0 (fabric_of key) g0) refl refl)
       (number-held b p 0 (fabric_of key) g0 4 (smallest_u8 (fabric_of key) (omega arith)) (omega arith))
 
-  endpoint-read : member_number 1 5 b p ≡ Value (endpoint_of key)
+  endpoint-read : member_number 1 5 b p ≡ Some (endpoint_of key)
   unfolding member_number
   endpoint-read =
       rw (past0 1 (λ e. omega arith) ∙ find-tag 1 b p1 _ _ (number-member b p1 1 (endpoint_of key) g1) refl refl)
       (number-held b p1 1 (endpoint_of key) g1 5 (smallest_u16 (endpoint_of key) (omega arith)) (omega arith))
 
-  group-read : member_number 2 5 b p ≡ Value (group_of key)
+  group-read : member_number 2 5 b p ≡ Some (group_of key)
   unfolding member_number
   group-read =
       rw (past1 2 (omega arith) ∙ find-tag 2 b p2 _ _ (number-member b p2 2 (group_of key) g2) refl refl)
       (number-held b p2 2 (group_of key) g2 5 (smallest_u16 (group_of key) (omega arith)) (omega arith))
 
-  scene-read : member_number 3 4 b p ≡ Value (scene_of key)
+  scene-read : member_number 3 4 b p ≡ Some (scene_of key)
   unfolding member_number
   scene-read =
       rw (past2 3 (omega arith) ∙ find-tag 3 b p3 _ _ (number-member b p3 3 (scene_of key) h3) refl refl)
       (number-held b p3 3 (scene_of key) h3 4 (smallest_u8 (scene_of key) (omega arith)) (omega arith))
 
-  key-read : 0 < fabric_of key → key_from b p ≡ Value key
+  key-read : 0 < fabric_of key → key_from b p ≡ Some key
   unfolding key_from
   key-read f =
       let e : key_of (fabric_of key) (endpoint_of key) (group_of key) (scene_of key) ≡ key = omega arith in
-      rw (fabric-read, ne_eqb (fabric_of key) 0 (λ z. omega arith), endpoint-read, group-read, scene-read) (ap Value e)
+      rw (fabric-read, ne_eqb (fabric_of key) 0 (λ z. omega arith), endpoint-read, group-read, scene-read) (ap Some e)
 
   -- the open containers stay as they were
   key_through : (level : ℕ) → passed_from b (suc level) p ≡ passed_from b (suc level) p4
@@ -179,7 +177,7 @@ module _ (b : List ℕ) (at key time : ℕ) (fields : List ℕ) (h : Holds b at 
   entry-fields : Holds b fields_at (octets_bytes 5 fields)
   entry-fields = holds_left b fields_at (octets_bytes 5 fields) (end_type ∷ []) (behind b time_at 4 time (octets_bytes 5 fields ++ (end_type ∷ [])) entry_rest_lem)
 
-  time-read : time < 2 ^ 32 → member_number 4 6 b (at + 1) ≡ Value time
+  time-read : time < 2 ^ 32 → member_number 4 6 b (at + 1) ≡ Some time
   unfolding member_number
   time-read t =
       rw (past-key b (at + 1) key entry_key l 4 (omega arith) ∙ find-tag 4 b time_at _ _ (number-member b time_at 4 time entry-time) refl refl)
@@ -188,20 +186,20 @@ module _ (b : List ℕ) (at key time : ℕ) (fields : List ℕ) (h : Holds b at 
   abbrev start : ℕ
   start = fields_start at key time (length fields)
 
-  fields_read_lem : length fields ≤ max_fields → member_octets 5 b (at + 1) ≡ Span start (start + length fields)
+  fields_read_lem : length fields ≤ max_fields → member_octets 5 b (at + 1) ≡ Some (span start (start + length fields))
   unfolding member_octets
   fields_read_lem n =
       let m : length fields < 2 ^ 64 = omega arith in
       rw (past-key b (at + 1) key entry_key l 5 (omega arith)
       ∙ find-other 5 b time_at _ _ (number-member b time_at 4 time entry-time) (λ e. omega arith) refl
       ∙ find-tag 5 b fields_at _ _ (octets-member b fields_at 5 fields entry-fields m) refl refl)
-      (octets-held b fields_at 5 fields entry-fields m ∙ ap (Span start) (omega arith))
+      (octets-held b fields_at 5 fields entry-fields m ∙ ap (λ (n : ℕ). Some (span start n)) (omega arith))
 
   module _ (f : 0 < fabric_of key) (t : time < 2 ^ 32) (n : length fields ≤ max_fields) where
     -- an entry that is written is read back
     pub entry_read :
         let from = fields_start at key time (length fields) in
-        entry_at b at ≡ Scene (record { key = key; time = time; from = from; to = from + length fields })
+        entry_at b at ≡ Some (record { key = key; time = time; from = from; to = from + length fields })
     unfolding entry_at
     entry_read =
         let e : start + length fields - start ≡ length fields = omega arith in
@@ -271,7 +269,7 @@ module _ (b : List ℕ) (at word : ℕ) (h : Holds b at (record_bytes word)) whe
   record_flag : Holds b (key_end (at + 1) word_key) (bool_bytes 4 (is_valid word))
   record_flag = holds_left b (key_end (at + 1) word_key) (bool_bytes 4 (is_valid word)) (end_type ∷ []) record_rest_lem
 
-  valid-read : member_bool 4 b (at + 1) ≡ Is (is_valid word)
+  valid-read : member_bool 4 b (at + 1) ≡ Some (is_valid word)
   unfolding member_bool
   valid-read =
       rw (past-key b (at + 1) word_key record_key key_small 4 (omega arith)
@@ -286,7 +284,7 @@ module _ (b : List ℕ) (at word : ℕ) (h : Holds b at (record_bytes word)) whe
       ] refl
 
   -- a record that is written is read back
-  pub record_read : 0 < fabric_of (key_of_record word) → word < 2 ^ 49 → record_at b at ≡ Value word
+  pub record_read : 0 < fabric_of (key_of_record word) → word < 2 ^ 49 → record_at b at ≡ Some word
   unfolding record_at
   record_read f l =
       let first = holds_first b at struct_type (key_bytes word_key ++ record_rest) h in
@@ -295,7 +293,7 @@ module _ (b : List ℕ) (at word : ℕ) (h : Holds b at (record_bytes word)) whe
         key-read b (at + 1) word_key record_key key_small f,
         valid-read,
       )
-      (ap Value (word_again l))
+      (ap Some (word_again l))
 
   record_end_lem : Holds b (key_end (at + 1) word_key + 2) (end_type ∷ [])
   record_end_lem = holds_right b (key_end (at + 1) word_key) (bool_bytes 4 (is_valid word)) (end_type ∷ []) record_rest_lem

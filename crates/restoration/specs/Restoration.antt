@@ -1,7 +1,6 @@
 -- What an image keeps of a table, as theorems state it: document 02, Q-1, "Loading the image of a table of this size that 10 below would
 -- not refuse restores its entries and records, and writing a loaded image writes the Rust's bytes for it." `RewritesNone` is of Q-3.
-use Rattle.std.specs.Prelude.{ℕ, ◌+◌, ◌%◌, ◌^◌, ◌≤◌, ◌<◌, ◌≡◌, true, false, List, [], length, take, get_or}
-use Rattle.std.proofs.Math.Option.{some}
+use Rattle.std.specs.Prelude.{ℕ, ◌+◌, ◌%◌, ◌^◌, ◌≤◌, ◌<◌, ◌≡◌, true, false, List, [], length, take, get_or, Some}
 use Rattle.words.specs.Constants.{success}
 use Rattle.state.specs.Table.{Table, entries_in, records_in}
 use Rattle.state.specs.Sound.{sound}
@@ -44,7 +43,7 @@ SavedRestores =
 -- after a load of any bytes that are accepted, the table's image is the encoding of what they were read as
 abbrev pub Rewrites : Type 0
 Rewrites =
-    (bytes : List ℕ) (t : Table) (i : Image) → ((k : ℕ) → get_or bytes k 0 < 2 ^ 8) → image_in t.state.size bytes ≡ some i
+    (bytes : List ℕ) (t : Table) (i : Image) → ((k : ℕ) → get_or bytes k 0 < 2 ^ 8) → image_in t.state.size bytes ≡ Some i
     → (load_image bytes t).status ≡ success → image_of (load_image bytes t).table ≡ image_bytes i.entries i.records
 
 -- after a load of no bytes, the image of a table without entries and records

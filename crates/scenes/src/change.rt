@@ -10,9 +10,8 @@ use crate::ScenesHandler;
 use commands::{Applied, Commands, Stored};
 use copies::Copies;
 use requests::{CopyRequest, Membership};
-use slots::Search;
 use state::Outcome;
-use words::{Fault, GroupKey, SceneKey};
+use words::{GroupKey, Refusal, SceneKey};
 
 impl ScenesHandler {
     // Adds a scene, or gives it a new time and new fields.
@@ -57,8 +56,8 @@ impl ScenesHandler {
             counted_of (result_of result.status result.save after) result.compared ≡ store_counted key member captured.now before }
     {
         let state = self.state;
-        let Search::Sound(found) = state.search(keys, times, fields, records, key.word()) else {
-            return Stored::refused(Fault::UNSOUND, state);
+        let Ok(found) = state.search(keys, times, fields, records, key.word()) else {
+            return Stored::refused_by(Refusal::Unsound, state);
         };
         Commands { state }.store_found(keys, times, fields, records, found, key, member, captured)
     }

@@ -10,7 +10,7 @@ ghost use Rattle.std.specs.Prelude.{◌≡◌, false};
 ghost use Rattle.words.specs.Constants.{unsound};
 
 use state::{Outcome, ScenesState};
-use words::Fault;
+use words::Refusal;
 
 // The head of a table about which nothing is known. The head's own operations are methods of `ScenesState`; a call takes the handler and
 // hands the head back.
@@ -25,6 +25,6 @@ impl ScenesHandler {
         ensures { result ≡ record { status = unsound; save = false; state = self.state } }
     {
         let state = self.state;
-        Outcome::unsaved(Fault::UNSOUND, state)
+        Outcome::refused_by(Refusal::Unsound, state)
     }
 }

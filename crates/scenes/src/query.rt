@@ -4,9 +4,9 @@ ghost use Rattle.state.specs.Table.{table_of};
 ghost use Rattle.reads.specs.Reads.{view_scene, recall_lookup, field_bytes, listed_of, get_scene_membership, read_fabric_scene_info};
 
 use crate::ScenesHandler;
-use reads::{InfoRead, ListRead, Reads, SceneRead, Transition};
+use reads::{InfoRead, ListRead, Reads, SceneRead};
 use requests::Membership;
-use words::{Fault, GroupKey, SceneKey};
+use words::{GroupKey, Refusal, SceneKey};
 
 impl ScenesHandler {
     // A scene's time, and its position, at which `field_bytes` hands out its fields.
@@ -26,7 +26,7 @@ impl ScenesHandler {
         if state.is_sound(keys, times, fields, records) {
             return Reads { state }.view_scene(keys, times, fields, records, key, member);
         }
-        SceneRead::refused(Fault::UNSOUND, state)
+        SceneRead::refused_by(Refusal::Unsound, state)
     }
 
     // What a recall applies: the effective time and the position of the scene's fields. The host applies them, then ends the recall.
@@ -38,7 +38,7 @@ impl ScenesHandler {
         records: &[u64],
         key: SceneKey,
         member: Membership,
-        transition: Transition,
+        transition: Option<u32>,
     ) -> SceneRead
         ensures { let table = table_of self.state keys.now times.now fields.now records.now in
             result ≡ recall_lookup key member transition table }
@@ -49,7 +49,7 @@ impl ScenesHandler {
                 keys, times, fields, records, key, member, transition,
             );
         }
-        SceneRead::refused(Fault::UNSOUND, state)
+        SceneRead::refused_by(Refusal::Unsound, state)
     }
 
     // The field bytes of the entry at a position, as a part of the lent slice: none past the entries or in a table that is not sound.
@@ -91,7 +91,7 @@ impl ScenesHandler {
                 keys, times, fields, records, ids, key, member,
             );
         }
-        ListRead::refused(Fault::UNSOUND, state)
+        ListRead::refused_by(Refusal::Unsound, state)
     }
 
     // The fabric's row of FabricSceneInfo on an endpoint, if it has an entry there or a record.
@@ -114,6 +114,6 @@ impl ScenesHandler {
                 keys, times, fields, records, fabric, endpoint, single,
             );
         }
-        InfoRead::absent(Fault::UNSOUND, state)
+        InfoRead::absent(Refusal::Unsound as u8, state)
     }
 }

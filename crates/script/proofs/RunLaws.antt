@@ -23,11 +23,11 @@ use Rattle.script_commands.specs.Commands.{command, add, add_read, store, remove
 use Rattle.script_reads.specs.Reads.{query, view, recall, list_in, list, info}
 use Rattle.script_events.specs.Writes.{host_write, set_version, push_entry, push_record}
 use Rattle.script_events.specs.Events.{event}
-use Rattle.script_lines.specs.Lines.{one_of, kinds_of, Meaning, word_read}
+use Rattle.script_lines.specs.Lines.{one_of, kinds_of, Meaning, word_read, Said, line_says, line_left, ReadsLine}
 use Rattle.script_asking.specs.Asked.{add_asked, add_read_asked, store_asked, remove_asked, remove_all_asked, copy_asked, asked_command, view_asked, recall_asked, list_asked, list_in_asked, asked_query}
 use Rattle.script_groups.specs.Memberships.{join, leave, held, push_group, removal, group_event}
 use Rattle.script_groups.specs.Calls.{needs_groups, GroupCalled, group_called, group_call}
-use Rattle.script.specs.Running.{with_heads, Session, session, table_in, groups_in, answered, wrong, answered_call, called, new_table, obeyed, numbers, texts}
+use Rattle.script.specs.Running.{with_heads, Session, session, table_in, groups_in, answered, wrong, answered_call, called, new_table, obeyed, numbers, texts, said_runs, run_line}
 use Rattle.script_machine.specs.Machines.{dump_lines, Ended}
 use Rattle.script_answers.proofs.DoneLaws.{fit_called}
 use Rattle.script_commands.proofs.Fits.{command-fits}
@@ -181,3 +181,12 @@ module _ (values starts line : List ℕ) (s : Session) where
 
   pub same-words : (letter : ℕ) → Same letter
   same-words letter = cases Same letter worded same_each (λ n. wordless letter n _ _ s ∙ sym (wordless letter n _ _ s))
+
+-- what was read runs as the line does
+pub read_runs : (n m : Machine) (k t f w g buffer line after : List ℕ) (output : Sheet) (said : Said) → n ≡ m
+    → ReadsLine (line_says n.trace line) (line_left n.trace line) after said
+    → said_runs said (session n k t f w g buffer after output) ≡ run_line (session m k t f w g buffer line output)
+read_runs n m k t f w g buffer line after output said e q =
+    let says = q.says ∙ ap (λ (x : Machine). line_says x.trace line) e in
+    let left = q.line ∙ ap (λ (x : Machine). line_left x.trace line) e in
+    λ i. said_runs (says i) (session (e i) k t f w g buffer (left i) output)

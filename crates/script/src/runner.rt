@@ -8,7 +8,7 @@ ghost use Rattle.script.specs.Running.{session, called, obeyed, run_line};
 use crate::calls::any_call;
 use asking::AskingHandler;
 use script_answers::put_answer;
-use script_lines::{Line, Verdict, asks_half, read_line};
+use script_lines::{Line, asks_half, read_line};
 use script_machine::{Machine, Ran};
 use text_output::Reason;
 
@@ -111,12 +111,10 @@ pub fn run_line(
         after ≡ run_line before }
 {
     let m = machine.counted();
-    let read = read_line(line, m.trace);
-    let verdict = read.verdict;
-    match verdict {
-        Verdict::Nothing => Ran { machine: m, at },
-        Verdict::Wrong(reason) => m.wrong(out, at, reason),
-        Verdict::Call => obeyed(
+    match read_line(line, m.trace) {
+        Ok(None) => Ran { machine: m, at },
+        Err(reason) => m.wrong(out, at, reason),
+        Ok(Some(read)) => obeyed(
             m, keys, times, fields, records, words, buffer, line, out, at, read,
         ),
     }

@@ -8,7 +8,7 @@ use crate::{Answer, Row, Tail};
 use script_lines::Bounds;
 use text_input::part;
 use text_output::{end_line, put, put_bytes, put_flag, put_number, put_status, put_text};
-use words::{Slot, least};
+use words::Slot;
 
 // `N` in a trace, else `scenes`.
 fn put_size_word(out: &mut [u8], at: usize, trace: bool) -> usize
@@ -56,12 +56,9 @@ fn put_ids(out: &mut [u8], at: usize, buffer: &[u8], len: usize) -> usize
     ensures { let listed = buffer.now in
         sheet out.new result ≡ writes_below (λ i. number (get_or listed i 0) ∷ []) (min len (length listed)) (sheet out.old at) }
 {
-    let n = least(len, buffer.len());
     let mut next = at;
-    let mut i = 0;
-    while i < n {
-        next = put_number(out, next, buffer[i] as u64);
-        i += 1;
+    for id in &buffer[..len.min(buffer.len())] {
+        next = put_number(out, next, *id as u64);
     }
     next
 }

@@ -1,5 +1,5 @@
 // The lines of a table as it stands, and of memberships.
-ghost use Rattle.std.specs.Prelude.{◌≡◌, ◌≤◌, get_or};
+ghost use Rattle.std.specs.Prelude.{◌≡◌, ◌≤◌, min, length, get_or};
 ghost use Rattle.words.specs.Constants.{max_scenes};
 ghost use Rattle.state.specs.Table.{table_of};
 ghost use Rattle.text_output.specs.Writing.{sheet, writes, writes_below};
@@ -8,35 +8,7 @@ ghost use Rattle.script_answers.specs.Dump.{key_texts, entry_texts, stored_in, s
 use state::ScenesState;
 use text_input::part;
 use text_output::{end_line, put_bytes, put_flag, put_number, put_text};
-use words::{Slot, least};
-
-// A word of a lent slice, or 0 past its end.
-fn word_at(words: &[u64], i: usize) -> u64
-    ensures { result ≡ get_or words.now i 0 }
-{
-    if i < words.len() {
-        return words[i];
-    }
-    0
-}
-
-fn time_at(times: &[u32], i: usize) -> u32
-    ensures { result ≡ get_or times.now i 0 }
-{
-    if i < times.len() {
-        return times[i];
-    }
-    0
-}
-
-fn byte_at(bytes: &[u8], i: usize) -> u8
-    ensures { result ≡ get_or bytes.now i 0 }
-{
-    if i < bytes.len() {
-        return bytes[i];
-    }
-    0
-}
+use words::Slot;
 
 // The parts of a key word.
 fn put_key(out: &mut [u8], at: usize, word: u64) -> usize
@@ -77,7 +49,8 @@ fn shown_bytes(fields: &[u8], stored: usize, i: usize) -> &[u8]
 {
     if i < stored {
         let base = i * Slot::STRIDE;
-        return part(fields, base + 1, byte_at(fields, base) as usize);
+        let len = fields.get(base).copied().unwrap_or(0);
+        return part(fields, base + 1, len as usize);
     }
     &fields[..0]
 }
@@ -96,8 +69,8 @@ fn put_entry_at(
     ensures { let line = entry_shown stored keys.now times.now fields.now i in
         sheet out.new result ≡ writes line (sheet out.old at) }
 {
-    let word = word_at(keys, i);
-    let time = time_at(times, i);
+    let word = keys.get(i).copied().unwrap_or(0);
+    let time = times.get(i).copied().unwrap_or(0);
     let bytes = shown_bytes(fields, stored, i);
     put_entry(out, at, word, time, bytes)
 }
@@ -138,23 +111,20 @@ fn put_entries(
         sheet out.new result ≡ writes_below line n (sheet out.old at) }
 {
     let mut next = at;
-    let mut i = 0;
-    while i < n {
+    for i in 0..n {
         next = put_entry_at(out, next, stored, keys, times, fields, i);
-        i += 1;
     }
     next
 }
 
-// The lines of the first n records.
-fn put_records(out: &mut [u8], at: usize, n: usize, records: &[u64]) -> usize
-    ensures { sheet out.new result ≡ writes_below (λ i. record_line (get_or records.now i 0)) n (sheet out.old at) }
+// The lines of the records below the count, as far as the lent slice has them.
+fn put_records(out: &mut [u8], at: usize, recorded: usize, records: &[u64]) -> usize
+    ensures { let n = min recorded (length records.now) in
+        sheet out.new result ≡ writes_below (λ i. record_line (get_or records.now i 0)) n (sheet out.old at) }
 {
     let mut next = at;
-    let mut i = 0;
-    while i < n {
-        next = put_record(out, next, word_at(records, i));
-        i += 1;
+    for word in &records[..recorded.min(records.len())] {
+        next = put_record(out, next, *word);
     }
     next
 }
@@ -172,12 +142,11 @@ pub fn put_table(
     ensures { let table = table_of state keys.now times.now fields.now records.now in
         sheet out.new result ≡ table_lines table (sheet out.old at) }
 {
-    let shown = least(state.entries, keys.len());
-    let recorded = least(state.recorded, records.len());
+    let shown = state.entries.min(keys.len());
     let stored = stored(state, keys, times, fields, records);
     let counts = put_counts(out, at, state);
     let entries = put_entries(out, counts, shown, stored, keys, times, fields);
-    put_records(out, entries, recorded, records)
+    put_records(out, entries, state.recorded, records)
 }
 
 // A membership's line.
@@ -195,12 +164,9 @@ fn put_group(out: &mut [u8], at: usize, word: u64) -> usize
 pub fn put_groups(out: &mut [u8], at: usize, held: usize, words: &[u64]) -> usize
     ensures { sheet out.new result ≡ group_lines held words.now (sheet out.old at) }
 {
-    let n = least(held, words.len());
     let mut next = at;
-    let mut i = 0;
-    while i < n {
-        next = put_group(out, next, words[i]);
-        i += 1;
+    for word in &words[..held.min(words.len())] {
+        next = put_group(out, next, *word);
     }
     next
 }

@@ -9,7 +9,7 @@ use Rattle.words.specs.Constants.{max_scenes}
 use Rattle.words.specs.declared.SceneKey.{SceneKey}
 use Rattle.words.specs.declared.GroupKey.{GroupKey}
 use Rattle.state.specs.Table.{Table}
-use Rattle.reads.specs.declared.Transition.{Transition}
+use Rattle.reads.specs.Reads.{Transition}
 use Rattle.reads.specs.declared.SceneRead.{SceneRead}
 use Rattle.reads.specs.Reads.{Listed}
 use Rattle.groups.specs.Groups.{Groups, groups_sound}

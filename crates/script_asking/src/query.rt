@@ -9,7 +9,6 @@ use asking::AskingHandler;
 use script_answers::Answer;
 use script_lines::{Line, group_key, scene_key};
 use script_reads::{applied, list_tail, scene_tail, transition};
-use words::least;
 
 // V: view.
 fn view(
@@ -109,7 +108,7 @@ fn list_in(
         let groups = groups_of asking.groups words.now in
         called_of (done_of result after) buffer.new ≡ list_in_asked read.values buffer.old groups before }
 {
-    let n = least(read.values[4] as usize, buffer.len());
+    let n = (read.values[4] as usize).min(buffer.len());
     list(
         asking,
         keys,

@@ -1,5 +1,6 @@
 // The raw writes of the host: the data version, an entry and a record behind the last ones, as they stand.
 ghost use Rattle.std.specs.Prelude.{ℕ, ◌≡◌, false, List};
+ghost use Rattle.words.specs.Refusals.{status_of};
 ghost use Rattle.state.specs.Table.{table_of};
 ghost use Rattle.script_lines.specs.Values.{bytes_at};
 ghost use Rattle.script_answers.specs.Done.{done_of};
@@ -9,14 +10,14 @@ use script_answers::{Answer, Tail};
 use script_lines::{Line, long, scene_key};
 use state::ScenesState;
 use text_input::part;
-use words::{Fault, Limits, SceneKey, Slot, Status};
+use words::{Limits, Refusal, SceneKey, Slot};
 
 // What a write of the host answers.
-fn raw(status: u8, state: ScenesState) -> Answer
-    ensures { result ≡ record { status = status; save = false; state = state; tail = Tail.Nothing } }
+fn raw(answer: Result<(), Refusal>, state: ScenesState) -> Answer
+    ensures { result ≡ record { status = status_of answer; save = false; state = state; tail = Tail.Nothing } }
 {
     Answer {
-        status,
+        status: words::status_of(answer),
         save: false,
         state,
         tail: Tail::Nothing,
@@ -28,7 +29,7 @@ fn set_version(mut state: ScenesState, read: Line) -> Answer
     ensures { (k t f w : List ℕ) → done_of result (table_of result.state k t f w) ≡ set_version read.values (table_of state k t f w) }
 {
     state.dataver = long(read.values[0]);
-    raw(Status::SUCCESS, state)
+    raw(Ok(()), state)
 }
 
 // Whether one more entry has a fabric, and fits its fields, the table and slices of these lengths.
@@ -92,9 +93,9 @@ fn push_entry(
     ) {
         slot_writes::put(keys, times, fields, n, key.word(), time, ext);
         state.entries = n + 1;
-        return raw(Status::SUCCESS, state);
+        return raw(Ok(()), state);
     }
-    raw(Fault::UNSOUND, state)
+    raw(Err(Refusal::Unsound), state)
 }
 
 // The word of a record that is valid or not.
@@ -133,9 +134,9 @@ fn push_record(mut state: ScenesState, records: &mut [u64], read: Line) -> Answe
     if record_fits(state, key.fabric, records.len()) {
         records[n] = word;
         state.recorded = n + 1;
-        return raw(Status::SUCCESS, state);
+        return raw(Ok(()), state);
     }
-    raw(Fault::UNSOUND, state)
+    raw(Err(Refusal::Unsound), state)
 }
 
 // A raw write of the host.

@@ -11,7 +11,7 @@ use groups::{GroupRead, GroupsState};
 use script_answers::{Answer, Tail};
 use script_lines::{Line, byte, group_key};
 use state::ScenesState;
-use words::{Fault, Limits, Status};
+use words::{Limits, Refusal, Status};
 
 // An answer that leaves the table as it was, and nothing to save.
 fn unsaved(status: u8, state: ScenesState, tail: Tail, groups: GroupsState) -> GroupAnswer
@@ -129,7 +129,7 @@ fn push_group(asking: AskingHandler, words: &mut [u64], read: Line) -> GroupAnsw
         groups.held = n + 1;
         return unsaved(Status::SUCCESS, state, Tail::Nothing, groups);
     }
-    unsaved(Fault::UNSOUND, state, Tail::Nothing, groups)
+    unsaved(u8::from(Refusal::Unsound), state, Tail::Nothing, groups)
 }
 
 // F: a fabric's removal.

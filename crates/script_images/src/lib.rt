@@ -13,7 +13,7 @@ use script_answers::{Answer, Tail};
 use script_lines::Line;
 use state::ScenesState;
 use text_input::part;
-use words::{Status, least};
+use words::Status;
 
 // The length of an image that was saved.
 fn image_tail(saved: ImageSaved) -> Tail
@@ -62,7 +62,7 @@ fn save_in(
         let after = table_of result.state keys.now times.now fields.now records.now in
         called_of (done_of result after) buffer.new ≡ save_in read.values buffer.old before }
 {
-    let n = least(read.values[0] as usize, buffer.len());
+    let n = (read.values[0] as usize).min(buffer.len());
     save(state, keys, times, fields, records, &mut buffer[..n])
 }
 

@@ -1,23 +1,17 @@
--- The laws of a search for a letter. Assumes nothing.
-use Prim.Native.Nat.{ℕ, ◌+◌, ◌≤◌, ◌<◌}
-use mathlib.Core.Path.{◌≡◌}
-use mathlib.Core.Bool.{true, false}
-use mathlib.Core.List.{List}
-use native.Mathlib.Numerals.{add-one}
-use lib.ListN.{length, get_or, drop, drop_of_length-le}
-use lib.Seq.{drop-cons}
-use borrow.Author.Tests.{eq-eqb, ne_eqb}
+-- A search for a letter is std's. Assumes nothing.
+use Prim.Native.Nat.{ℕ}
+use mathlib.Core.Path.{◌≡◌, refl}
+use mathlib.Core.Bool.{true, false, cond, ◌||◌}
+use mathlib.Core.List.{List, [], ◌∷◌}
+use native.Mathlib.Omega.{arith}
+use lib.Dec.{eqb}
+use Rattle.std.specs.List.{list_any}
 use Rattle.script_lines.specs.Lines.{one_of}
 
-module _ (letter : ℕ) (xs : List ℕ) (i : ℕ) where
-  pub of_found : i < length xs → letter ≡ get_or xs i 0 → one_of letter (drop i xs) ≡ true
-  unfolding one_of
-  of_found h e = rw (drop-cons xs i 0 h, eq-eqb _ _ e)
+either_way : (a b : ℕ) → eqb a b ≡ eqb b a
+either_way a b = grind arith
 
-  pub of_next : i < length xs → (letter ≡ get_or xs i 0 → ⊥) → one_of letter (drop i xs) ≡ one_of letter (drop (i + 1) xs)
-  unfolding one_of
-  of_next h n = rw (drop-cons xs i 0 h, ne_eqb _ _ n, add-one)
-
-  pub of_end : length xs ≤ i → one_of letter (drop i xs) ≡ false
-  unfolding one_of
-  of_end h = rw (drop_of_length-le xs h)
+pub is_any : (letter : ℕ) (ls : List ℕ) → list_any (λ l. eqb l letter) ls ≡ one_of letter ls
+unfolding one_of
+is_any letter [] = refl
+is_any letter (l ∷ ls) = rw (either_way l letter, is_any letter ls) (elim (eqb letter l) as (λ t. (t || one_of letter ls) ≡ cond t true (one_of letter ls)) [ true ↦ refl | false ↦ refl ])

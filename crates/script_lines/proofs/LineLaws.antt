@@ -10,49 +10,37 @@ use lib.ListN.{length, get_or, set, take, drop, take-append-drop, length-append,
 use lib.Seq.{length-take-le, take-append_seam, take-take, take-add, drop-drop, drop-cons, take_at, drop_at, get_or-set_same, get_or-set_other, get_or-drop}
 use borrow.Author.Tests.{eqb-true, eq-eqb, ne_eqb}
 use borrow.Rule.Slice.PartMut.{mid_of, mid_len}
-use Rattle.text_input.specs.declared.input.Word.{Word}
+use Rattle.std.specs.List.{prefix_len}
+use Rattle.std.specs.Prelude.{Result, Ok, Err}
 use Rattle.text_output.specs.declared.reason.Reason.{Reason}
 use Rattle.text_output.specs.declared.reason.Reason.TheVariants.{Unknown, TooMany}
 use Rattle.text_input.specs.declared.input.Span.{Span}
-use Rattle.text_input.specs.Reading.{blank, in_word, leading, word_from, number_of, Spelled, Bytes, Refused, or_dash, digit_bytes, hex_pairs, turned, spelled_in}
+use Rattle.text_input.specs.Reading.{blank, in_word, word_from, number_of, Spelled, or_dash, digit_bytes, hex_pairs}
 use Rattle.text_input.proofs.Reading.{word-start, word_end}
 use Rattle.words.specs.Below.{positions}
 use Rattle.script_lines.specs.declared.reader.Kind.{Kind}
 use Rattle.script_lines.specs.declared.reader.Kind.TheVariants.{End, Byte, Short, Long, Member, Flag, Size, Modes, Digits, Hex, Override, Length}
 use Rattle.script_lines.specs.declared.reader.Reading.{Reading}
-use Rattle.script_lines.specs.Lines.{Meaning, Number, Text, Unclear, numeral, spelling, override_of, most_scenes, modes_of, member_word, spells, word_says, word_answer, word_left, read_as, meaning, blanks, after_blanks, first_word, behind_word, Said, Nothing, Wrong, Call, ahead, follow, words_say, letter_says, line_says, known, one_of, kinds_of, understood, words_left, line_left, ReadsNext, word_read}
-use Rattle.text_input.specs.declared.input.Word.TheVariants as word
+use Rattle.script_lines.specs.Lines.{Meaning, Number, Text, Unclear, numeral, spelling, override_of, most_scenes, modes_of, member_word, spells, word_says, word_answer, word_left, meaning, blanks, after_blanks, first_word, behind_word, Said, Nothing, Wrong, Call, ahead, follow, words_say, letter_says, line_says, known, one_of, kinds_of, understood, words_left, line_left, ReadsNext, word_read}
 
 -- ---- a word
 
--- a word that says a number, and one that spells bytes
-numeral-read : (x : Word) (w : List ℕ) → turned x w ≡ read_as (numeral x) w
-numeral-read (word.Value n) w = refl
-numeral-read (word.Wrong r) w = refl
-
-pub number_read : (w : List ℕ) {x y : Word} → x ≡ y → turned x w ≡ read_as (numeral y) w
-number_read w {x} {y} e = ap (λ (z : Word). turned z w) e ∙ numeral-read y w
-
-pub spelling-read : (s : Spelled) (w : List ℕ) → spelled_in s w ≡ read_as (spelling s) w
-spelling-read (Bytes bytes) w = refl
-spelling-read (Refused r) w = refl
-
 -- what is read in the front of a text is what the word says, whatever follows it
-numeral-says : (kind : Kind) → spells kind ≡ false → (x : Word) (w rest : List ℕ)
+numeral-says : (kind : Kind) → spells kind ≡ false → (x : Result ℕ Reason) (w rest : List ℕ)
     → meaning kind (word_answer (numeral x)) (word_left (numeral x) w ++ rest) ≡ numeral x
-numeral-says kind e (word.Value n) w rest = rw e
-numeral-says kind e (word.Wrong r) w rest = refl
+numeral-says kind e (Ok n) w rest = rw e
+numeral-says kind e (Err r) w rest = refl
 
 spelling-says : (kind : Kind) → spells kind ≡ true → (s : Spelled) (w rest : List ℕ)
     → meaning kind (word_answer (spelling s)) (word_left (spelling s) w ++ rest) ≡ spelling s
-spelling-says kind e (Bytes bytes) w rest =
+spelling-says kind e (Ok bytes) w rest =
     rw e (ap Text (ap (take (length bytes)) (append_assoc bytes (drop (length bytes) w) rest)
     ∙ take-append_seam bytes (drop (length bytes) w ++ rest)))
-spelling-says kind e (Refused r) w rest = refl
+spelling-says kind e (Err r) w rest = refl
 
 word-says : (trace : Bool) (kind : Kind) (w rest : List ℕ)
     → meaning kind (word_answer (word_says trace kind w)) (word_left (word_says trace kind w) w ++ rest) ≡ word_says trace kind w
-word-says trace End w rest = numeral-says End refl (cond (eqb (length w) 0) (word.Value 0) (word.Wrong TooMany)) w rest
+word-says trace End w rest = numeral-says End refl (cond (eqb (length w) 0) (Ok 0) (Err TooMany)) w rest
 word-says trace Byte w rest = numeral-says Byte refl (number_of 255 w) w rest
 word-says trace Short w rest = numeral-says Short refl (number_of 65535 w) w rest
 word-says trace Long w rest = numeral-says Long refl (number_of (2 ^ 32 - 1) w) w rest
@@ -64,11 +52,11 @@ word-says trace Digits w rest = spelling-says Digits refl (or_dash w (digit_byte
 word-says trace Hex w rest = spelling-says Hex refl (or_dash w (hex_pairs w)) w rest
 word-says trace Override w rest = numeral-says Override refl (override_of w) w rest
 word-says trace (Length most) w rest =
-    numeral-says (Length most) refl (cond (eqb (length w) 0) (word.Value most) (number_of most w)) w rest
+    numeral-says (Length most) refl (cond (eqb (length w) 0) (Ok most) (number_of most w)) w rest
 
-is_value : Word → Bool
-is_value (word.Value n) = true
-is_value (word.Wrong r) = false
+is_value : Result ℕ Reason → Bool
+is_value (Ok n) = true
+is_value (Err r) = false
 
 understood_is : (m : Meaning) → understood m ≡ is_value (word_answer m)
 unfolding is_value
@@ -83,18 +71,18 @@ module _ (line : List ℕ) (at : ℕ) (r : Span) (e : r ≡ word_from line at) w
   word-from = rw e (omega arith)
 
   word-drop : drop r.from line ≡ after_blanks (drop at line)
-  word-drop = rw e (sym (drop-drop (leading blank (drop at line)) at line))
+  word-drop = rw e (sym (drop-drop (prefix_len blank (drop at line)) at line))
 
-  word-length : r.to ≡ r.from + leading in_word (drop r.from line)
+  word-length : r.to ≡ r.from + prefix_len in_word (drop r.from line)
   word-length = rw e
 
   pub word_is : mid_of r.from (r.to - r.from) line ≡ first_word (drop at line)
   word_is =
-      let n : r.to - r.from ≡ leading in_word (drop r.from line) = let l = word-length in omega arith in
+      let n : r.to - r.from ≡ prefix_len in_word (drop r.from line) = let l = word-length in omega arith in
       rw (n, word-drop)
 
   pub word_rest : drop r.to line ≡ behind_word (drop at line)
-  word_rest = ap (λ (n : ℕ). drop n line) word-length ∙ sym (drop-drop (leading in_word (drop r.from line)) r.from line) ∙ rw word-drop
+  word_rest = ap (λ (n : ℕ). drop n line) word-length ∙ sym (drop-drop (prefix_len in_word (drop r.from line)) r.from line) ∙ rw word-drop
 
 -- fronts that agree agree in what is shorter
 pub take_less : (a b : ℕ) (x y : List ℕ) → a ≤ b → take b x ≡ take b y → take a x ≡ take a y
@@ -170,7 +158,7 @@ module _ (trace : Bool) (kind : Kind) (line : List ℕ) (at : ℕ) (after : List
   reads-text : (rest : List ℕ) → take at line ++ (blanks (drop at line) ++ (left ++ rest)) ≡ take r.to after ++ rest
   reads-text rest =
       let from : take r.from line ≡ take at line ++ blanks (drop at line) =
-      ap (λ (s : Span). take s.from line) reads.span ∙ take-add at (leading blank (drop at line)) line in
+      ap (λ (s : Span). take s.from line) reads.span ∙ take-add at (prefix_len blank (drop at line)) line in
       sym
       (ap (λ (x : List ℕ). x ++ rest) reads_front
       ∙ append_assoc (take r.from line) left rest
@@ -191,7 +179,7 @@ ahead_none (Call letter ns) = refl
 
 module _ (k : Kind) (text : List ℕ) where
   follow-value : (n : ℕ) (ms : List Meaning) (said : Said)
-      → ahead ms (follow (meaning k (word.Value n) text) said) ≡ ahead (ms ++ (meaning k (word.Value n) text ∷ [])) said
+      → ahead ms (follow (meaning k (Ok n) text) said) ≡ ahead (ms ++ (meaning k (Ok n) text ∷ [])) said
   follow-value n ms said =
       elim (spells k) as (λ b. ahead ms (follow (cond b (Text (take n text)) (Number n)) said) ≡ ahead
       (ms ++ (cond b (Text (take n text)) (Number n) ∷ [])) said) [
@@ -253,7 +241,7 @@ module _ (trace : Bool) (letter : ℕ) (kinds : List Kind) (values starts line :
     unfolding words_say
     words-next = rw (drop-cons kinds i End l, add-one, reads_rest trace kind line at after r reads h k)
 
-    pub left-wrong : (why : Reason) → r.word ≡ word.Wrong why → take at line ++ words_left trace (drop i kinds) (drop at line) ≡ after
+    pub left-wrong : (why : Reason) → r.word ≡ Err why → take at line ++ words_left trace (drop i kinds) (drop at line) ≡ after
     unfolding words_left is_value
     left-wrong why e =
         let u : understood said ≡ false = understood_is said ∙ ap is_value (sym reads.answer ∙ e) in
@@ -263,7 +251,7 @@ module _ (trace : Bool) (letter : ℕ) (kinds : List Kind) (values starts line :
         ap (λ (x : List ℕ). take at line ++ x) d ∙ reads-text trace kind line at after r reads h k (drop r.to after)
         ∙ take-append-drop r.to after
 
-    pub left_more : (n : ℕ) → r.word ≡ word.Value n
+    pub left_more : (n : ℕ) → r.word ≡ Ok n
         → take at line ++ words_left trace (drop i kinds) (drop at line) ≡ take r.to after ++ words_left trace (drop (i + 1) kinds)
         (drop r.to after)
     unfolding words_left is_value
@@ -276,14 +264,14 @@ module _ (trace : Bool) (letter : ℕ) (kinds : List Kind) (values starts line :
         (words_left trace (drop (i + 1) kinds) (drop r.to after))
 
     module _ (says : Says) where
-      pub words-wrong : (why : Reason) → r.word ≡ word.Wrong why → words_say trace letter kinds text ≡ Wrong why
+      pub words-wrong : (why : Reason) → r.word ≡ Err why → words_say trace letter kinds text ≡ Wrong why
       words-wrong why e =
-          let m : Unclear why ≡ said = ap (λ (w : Word). meaning kind w (drop r.from after)) (sym e)
+          let m : Unclear why ≡ said = ap (λ (w : Result ℕ Reason). meaning kind w (drop r.from after)) (sym e)
           ∙ reads-says trace kind line at after r reads h k after refl in
           let s = says after (reads_before trace kind line at after r reads h k after refl) in
           s ∙ ap (ahead _) (words-next ∙ ap (λ (x : Meaning). follow x (words_say trace letter (drop (i + 1) kinds) (drop r.to after))) (sym m))
 
-      pub words_more : (n : ℕ) → r.word ≡ word.Value n → i < length values → i < length starts
+      pub words_more : (n : ℕ) → r.word ≡ Ok n → i < length values → i < length starts
           → (later : List ℕ) → take r.to later ≡ take r.to after
           → words_say trace letter kinds text
           ≡ ahead (map (word_read kinds (set values i n) (set starts i r.from) later) (positions (i + 1)))
@@ -292,13 +280,13 @@ module _ (trace : Bool) (letter : ℕ) (kinds : List Kind) (values starts line :
           let rest : Said = words_say trace letter (drop (i + 1) kinds) (drop r.to after) in
           let old : ℕ → Meaning = word_read kinds values starts later in
           let new : ℕ → Meaning = word_read kinds (set values i n) (set starts i r.from) later in
-          let m : Meaning = meaning kind (word.Value n) (drop r.from later) in
-          let says-m : m ≡ said = ap (λ (w : Word). meaning kind w (drop r.from later)) (sym e)
+          let m : Meaning = meaning kind (Ok n) (drop r.from later) in
+          let says-m : m ≡ said = ap (λ (w : Result ℕ Reason). meaning kind w (drop r.from later)) (sym e)
           ∙ reads-says trace kind line at after r reads h k later q in
           let same_old : map old (positions i) ≡ map new (positions i) = below_same old new i
-          (λ j l. λ z. meaning (get_or kinds j End) (word.Value (sym (get_or-set_other values i j n 0 (λ h. omega arith)) z))
+          (λ j l. λ z. meaning (get_or kinds j End) (Ok (sym (get_or-set_other values i j n 0 (λ h. omega arith)) z))
           (drop (sym (get_or-set_other starts i j r.from 0 (λ h. omega arith)) z) later)) in
-          let same_new : m ≡ new i = λ z. meaning kind (word.Value (sym (get_or-set_same values i n 0 lv) z))
+          let same_new : m ≡ new i = λ z. meaning kind (Ok (sym (get_or-set_same values i n 0 lv) z))
           (drop (sym (get_or-set_same starts i r.from 0 ls) z) later) in
           says later (reads_before trace kind line at after r reads h k later q)
           ∙ ap (ahead (map old (positions i))) (words-next ∙ ap (λ (x : Meaning). follow x rest) (sym says-m))
@@ -396,12 +384,12 @@ module _ (trace : Bool) (line : List ℕ) (r : Span) (e : r ≡ word_from line 0
   left_letter n y =
       let f = first_length in
       let rest : List ℕ = words_left trace (kinds_of (get_or line r.from 0)) (drop r.to line) in
-      let z : r.from ≡ 0 + leading blank line = ap (λ (s : Span). s.from) e in
-      let from : r.from ≡ leading blank line = omega arith in
+      let z : r.from ≡ 0 + prefix_len blank line = ap (λ (s : Span). s.from) e in
+      let from : r.from ≡ prefix_len blank line = omega arith in
       let front : take r.to line ≡ blanks line ++ first_word line =
       ap (λ (k : ℕ). take k line) (word-length line 0 r e)
-      ∙ take-add r.from (leading in_word (drop r.from line)) line
-      ∙ (λ i. take (from i) line ++ take (leading in_word (word-drop line 0 r e i)) (word-drop line 0 r e i)) in
+      ∙ take-add r.from (prefix_len in_word (drop r.from line)) line
+      ∙ (λ i. take (from i) line ++ take (prefix_len in_word (word-drop line 0 r e i)) (word-drop line 0 r e i)) in
       ap (λ (x : List ℕ). x ++ rest) front
       ∙ append_assoc (blanks line) (first_word line) rest
       ∙ rw (eq-eqb (length (first_word line)) 1 (omega arith), text_head, y, word_rest line 0 r e)

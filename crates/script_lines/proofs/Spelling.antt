@@ -7,8 +7,10 @@ use native.Mathlib.Omega.{arith}
 use lib.Dec.{eqb}
 use lib.ListN.{length, get_or, length-take, length-drop}
 use borrow.Author.Tests.{eqb-true, eqb-false}
+use Rattle.std.specs.List.{prefix_len}
+use Rattle.std.specs.Prelude.{Ok, Err}
 use Rattle.text_output.specs.declared.reason.Reason.TheVariants.{Missing, NotHex, Unknown}
-use Rattle.text_input.specs.Reading.{blank, in_word, leading, same, Bytes, Refused, or_dash, all_pairs, pair_bytes, hex_pairs}
+use Rattle.text_input.specs.Reading.{blank, in_word, same, or_dash, all_pairs, pair_bytes, hex_pairs}
 use Rattle.script_lines.specs.declared.reader.Kind.{Kind}
 use Rattle.script_lines.specs.declared.reader.Kind.TheVariants.{Hex}
 use Rattle.script_lines.specs.Lines.{known, kinds_of, Meaning, Number, Text, Unclear, spelling, word_says, after_blanks, first_word, behind_word, Said, Nothing, Wrong, Call, follow, words_say, letter_says, line_says}
@@ -28,13 +30,13 @@ pairs-length (h ∷ l ∷ bs) = let r = pairs-length bs in omega arith
 hex_length : (w : List ℕ) → 2 * spelt (spelling (or_dash w (hex_pairs w))) ≤ length w
 unfolding or_dash
 hex_length w =
-    elim (eqb (length w) 0) as (λ t. 2 * spelt (spelling (cond t (Refused Missing) (cond (same w (45 ∷ [])) (Bytes []) (hex_pairs w)))) ≤ length w) [
+    elim (eqb (length w) 0) as (λ t. 2 * spelt (spelling (cond t (Err Missing) (cond (same w (45 ∷ [])) (Ok []) (hex_pairs w)))) ≤ length w) [
       | true ↦ omega arith
       | false ↦
-          elim (same w (45 ∷ [])) as (λ t. 2 * spelt (spelling (cond t (Bytes []) (hex_pairs w))) ≤ length w) [
+          elim (same w (45 ∷ [])) as (λ t. 2 * spelt (spelling (cond t (Ok []) (hex_pairs w))) ≤ length w) [
             | true ↦ omega arith
             | false ↦
-                elim (all_pairs w) as (λ t. 2 * spelt (spelling (cond t (Bytes (pair_bytes w)) (Refused NotHex))) ≤ length w) [
+                elim (all_pairs w) as (λ t. 2 * spelt (spelling (cond t (Ok (pair_bytes w)) (Err NotHex))) ≤ length w) [
                   | true ↦ pairs-length w
                   | false ↦ omega arith
                 ]
@@ -42,18 +44,18 @@ hex_length w =
     ]
 
 after-length : (text : List ℕ) → length (after_blanks text) ≤ length text
-after-length text = let d = length-drop (leading blank text) text in omega arith
+after-length text = let d = length-drop (prefix_len blank text) text in omega arith
 
 first_length : (text : List ℕ) → length (first_word text) ≤ length text
 first_length text =
     let a = after-length text in
-    let t = length-take (leading in_word (after_blanks text)) (after_blanks text) in
+    let t = length-take (prefix_len in_word (after_blanks text)) (after_blanks text) in
     omega arith
 
 behind-length : (text : List ℕ) → length (behind_word text) ≤ length text
 behind-length text =
     let a = after-length text in
-    let d = length-drop (leading in_word (after_blanks text)) (after_blanks text) in
+    let d = length-drop (prefix_len in_word (after_blanks text)) (after_blanks text) in
     omega arith
 
 -- ---- the words of a text

@@ -1,18 +1,15 @@
 -- What a line says: nothing, why it is not understood, or a letter with what its words say; and what it holds once it was read.
 -- Characters are their ASCII codes.
-use Rattle.std.specs.Prelude.{ℕ, ◌-◌, ◌^◌, ◌≡◌, Bool, true, false, cond, List, [], ◌∷◌, ◌++◌, map, eqb, length, get_or, take, drop}
+use Rattle.std.specs.Prelude.{ℕ, ◌-◌, ◌^◌, ◌≡◌, Bool, true, false, cond, List, [], ◌∷◌, ◌++◌, Option, Some, None, Result, Ok, Err, map, eqb, length, get_or, take, drop}
+use Rattle.std.specs.List.{prefix_len}
 use Rattle.words.specs.Below.{positions}
 use Rattle.text_output.specs.declared.reason.Reason.{Reason}
-use Rattle.text_input.specs.declared.input.Word.{Word}
-use Rattle.text_input.specs.Reading.{blank, in_word, leading, word_from, number_of, same, Spelled, Bytes, Refused, or_dash, hex_pairs, digit_bytes, Turned, turned, laid}
+use Rattle.text_input.specs.Reading.{blank, in_word, word_from, number_of, same, Spelled, or_dash, hex_pairs, digit_bytes, Turned, turned, laid}
 use Rattle.script_lines.specs.declared.reader.Kind.{Kind}
 use Rattle.script_lines.specs.declared.reader.Kind.TheVariants.{End, Byte, Short, Long, Member, Flag, Size, Modes, Digits, Hex, Override, Length}
-use Rattle.script_lines.specs.declared.reader.Verdict.{Verdict}
 use Rattle.script_lines.specs.declared.reader.Reading.{Reading}
 use Rattle.script_lines.specs.declared.reader.Line.{Line}
 use Rattle.text_output.specs.declared.reason.Reason.TheVariants as reason
-use Rattle.text_input.specs.declared.input.Word.TheVariants as word
-use Rattle.script_lines.specs.declared.reader.Verdict.TheVariants as verdict
 
 -- ---- the letters
 
@@ -73,19 +70,19 @@ pub data Meaning : Type 0 where
   Text : List ℕ → Meaning
   Unclear : Reason → Meaning
 
-abbrev pub numeral : Word → Meaning
-numeral (word.Value n) = Number n
-numeral (word.Wrong r) = Unclear r
+abbrev pub numeral : Result ℕ Reason → Meaning
+numeral (Ok n) = Number n
+numeral (Err r) = Unclear r
 
 abbrev pub spelling : Spelled → Meaning
-spelling (Bytes bytes) = Text bytes
-spelling (Refused r) = Unclear r
+spelling (Ok bytes) = Text bytes
+spelling (Err r) = Unclear r
 
 -- `-` or `null`, which stands for no override, as 2^32; else a time
-unfoldable pub override_of : List ℕ → Word
+unfoldable pub override_of : List ℕ → Result ℕ Reason
 override_of w =
-    cond (same w (45 ∷ [])) (word.Value (2 ^ 32))
-    (cond (same w (110 ∷ 117 ∷ 108 ∷ 108 ∷ [])) (word.Value (2 ^ 32)) (number_of (2 ^ 32 - 1) w))
+    cond (same w (45 ∷ [])) (Ok (2 ^ 32))
+    (cond (same w (110 ∷ 117 ∷ 108 ∷ 108 ∷ [])) (Ok (2 ^ 32)) (number_of (2 ^ 32 - 1) w))
 
 -- the largest table of a program
 abbrev pub most_scenes : Bool → ℕ
@@ -96,16 +93,16 @@ abbrev pub not_given : ℕ
 not_given = 2 ^ 8
 
 -- the modes of a table, which may be missing. scenebench takes no further word
-unfoldable pub modes_of : Bool → List ℕ → Word
-modes_of trace w = cond (eqb (length w) 0) (word.Value not_given) (cond trace (number_of 255 w) (word.Wrong reason.TooMany))
+unfoldable pub modes_of : Bool → List ℕ → Result ℕ Reason
+modes_of trace w = cond (eqb (length w) 0) (Ok not_given) (cond trace (number_of 255 w) (Err reason.TooMany))
 
 -- what stands for a membership that is asked for: no told one is so large
 abbrev pub asks : ℕ
 asks = 3
 
 -- a membership that is told, or `?`, of scenetrace alone, for one that is asked for
-unfoldable pub member_word : Bool → List ℕ → Word
-member_word trace w = cond trace (cond (same w (63 ∷ [])) (word.Value asks) (number_of 2 w)) (number_of 2 w)
+unfoldable pub member_word : Bool → List ℕ → Result ℕ Reason
+member_word trace w = cond trace (cond (same w (63 ∷ [])) (Ok asks) (number_of 2 w)) (number_of 2 w)
 
 -- whether words of a kind spell bytes
 abbrev pub spells : Kind → Bool
@@ -124,7 +121,7 @@ spells (Length most) = false
 
 -- what a word of a kind says; a missing length is the most
 abbrev pub word_says : Bool → Kind → List ℕ → Meaning
-word_says trace End w = numeral (cond (eqb (length w) 0) (word.Value 0) (word.Wrong reason.TooMany))
+word_says trace End w = numeral (cond (eqb (length w) 0) (Ok 0) (Err reason.TooMany))
 word_says trace Byte w = numeral (number_of 255 w)
 word_says trace Short w = numeral (number_of 65535 w)
 word_says trace Long w = numeral (number_of (2 ^ 32 - 1) w)
@@ -135,13 +132,13 @@ word_says trace Modes w = numeral (modes_of trace w)
 word_says trace Digits w = spelling (or_dash w (digit_bytes w))
 word_says trace Hex w = spelling (or_dash w (hex_pairs w))
 word_says trace Override w = numeral (override_of w)
-word_says trace (Length most) w = numeral (cond (eqb (length w) 0) (word.Value most) (number_of most w))
+word_says trace (Length most) w = numeral (cond (eqb (length w) 0) (Ok most) (number_of most w))
 
 -- what the reader answers: a number, or how many bytes the word spells
-abbrev pub word_answer : Meaning → Word
-word_answer (Number n) = word.Value n
-word_answer (Text bytes) = word.Value (length bytes)
-word_answer (Unclear r) = word.Wrong r
+abbrev pub word_answer : Meaning → Result ℕ Reason
+word_answer (Number n) = Ok n
+word_answer (Text bytes) = Ok (length bytes)
+word_answer (Unclear r) = Err r
 
 -- what a word holds once it was read: the bytes that it spells in its front; every other word, and one that is not understood, stays
 abbrev pub word_left : Meaning → List ℕ → List ℕ
@@ -154,23 +151,23 @@ abbrev pub read_as : Meaning → List ℕ → Turned
 read_as m w = turned (word_answer m) (word_left m w)
 
 -- what was read as a word, in the front of a text
-abbrev pub meaning : Kind → Word → List ℕ → Meaning
-meaning kind (word.Value n) text = cond (spells kind) (Text (take n text)) (Number n)
-meaning kind (word.Wrong r) text = Unclear r
+abbrev pub meaning : Kind → Result ℕ Reason → List ℕ → Meaning
+meaning kind (Ok n) text = cond (spells kind) (Text (take n text)) (Number n)
+meaning kind (Err r) text = Unclear r
 
 -- ---- the words of a text
 
 abbrev pub blanks : List ℕ → List ℕ
-blanks text = take (leading blank text) text
+blanks text = take (prefix_len blank text) text
 
 abbrev pub after_blanks : List ℕ → List ℕ
-after_blanks text = drop (leading blank text) text
+after_blanks text = drop (prefix_len blank text) text
 
 abbrev pub first_word : List ℕ → List ℕ
-first_word text = take (leading in_word (after_blanks text)) (after_blanks text)
+first_word text = take (prefix_len in_word (after_blanks text)) (after_blanks text)
 
 abbrev pub behind_word : List ℕ → List ℕ
-behind_word text = drop (leading in_word (after_blanks text)) (after_blanks text)
+behind_word text = drop (prefix_len in_word (after_blanks text)) (after_blanks text)
 
 -- nothing, why it is not understood, or a letter with what its words say
 pub data Said : Type 0 where
@@ -239,18 +236,20 @@ pub record ReadsNext (trace : Bool) (kind : Kind) (line : List ℕ) (at : ℕ) (
 
 -- the word at a position
 abbrev pub word_read : List Kind → List ℕ → List ℕ → List ℕ → ℕ → Meaning
-word_read kinds values starts line i = meaning (get_or kinds i End) (word.Value (get_or values i 0)) (drop (get_or starts i 0) line)
+word_read kinds values starts line i = meaning (get_or kinds i End) (Ok (get_or values i 0)) (drop (get_or starts i 0) line)
+
+-- what a line says whose words were read
+abbrev pub words_said : Result Line Reason → List ℕ → Said
+words_said (Ok read) line = Call read.letter (map (word_read (kinds_of read.letter) read.values read.starts line) (positions 10))
+words_said (Err r) line = Wrong r
 
 -- what was read, with the line as it is left, says
-abbrev pub verdict_says : Verdict → Line → List ℕ → Said
-verdict_says verdict.Nothing read line = Nothing
-verdict_says (verdict.Wrong r) read line = Wrong r
-verdict_says verdict.Call read line = Call read.letter (map (word_read (kinds_of read.letter) read.values read.starts line) (positions 10))
+abbrev pub said_of : Result (Option Line) Reason → List ℕ → Said
+said_of (Ok None) line = Nothing
+said_of (Ok (Some read)) line = words_said (Ok read) line
+said_of (Err r) line = Wrong r
 
-abbrev pub said_of : Line → List ℕ → Said
-said_of read line = verdict_says read.verdict read line
-
--- a line that was read says something, and is left in a known way
-pub record ReadsLine (said : Said) (left : List ℕ) (after : List ℕ) (r : Line) : Type 0 where
-  pub says : said_of r after ≡ said
+-- what was read says something, and the line is left in a known way
+pub record ReadsLine (said : Said) (left : List ℕ) (after : List ℕ) (read : Said) : Type 0 where
+  pub says : read ≡ said
   pub line : after ≡ left

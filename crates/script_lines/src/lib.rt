@@ -4,5 +4,5 @@
 mod reader;
 mod values;
 
-pub use reader::{Bounds, Line, Verdict, one_of, read_line};
+pub use reader::{Bounds, Line, one_of, read_line};
 pub use values::{asks, asks_half, byte, group_key, long, member, scene_key, short};

@@ -1,9 +1,9 @@
 // A line of a script: a letter and the words that belong to it.
 ghost use Rattle.std.specs.Prelude.{◌≤◌, ◌≡◌, ◌++◌, length, take, drop};
 ghost use Rattle.text_input.specs.Reading.{turned};
-ghost use Rattle.script_lines.specs.Lines.{one_of, known, two_words, scene_and, kinds_of, override_of, most_scenes, modes_of, member_word, read_as, word_says, words_say, words_left, line_says, line_left, ReadsNext, ReadsLine};
+ghost use Rattle.script_lines.specs.Lines.{one_of, known, two_words, scene_and, kinds_of, override_of, most_scenes, modes_of, member_word, read_as, word_says, words_say, words_left, words_said, line_says, line_left, said_of, ReadsNext, ReadsLine};
 
-use text_input::{Word, digits, hex, next_word, number, same};
+use text_input::{digits, hex, next_word, number};
 use text_output::Reason;
 
 // The kinds of words.
@@ -45,7 +45,8 @@ impl Bounds {
     // The image buffer: as long as the image of 1,024 scenes can be.
     pub const IMAGE: u64 = 175_112;
 
-    // What stands for no override: no time is so large.
+    // What stands for no override: no time is so large. These three stay numbers and no Option: `line_says` has them among the numbers
+    // that a line says.
     pub const STORED: u64 = 0x1_0000_0000;
 
     // What stands for modes that are not given: no byte is so large.
@@ -55,34 +56,12 @@ impl Bounds {
     pub const ASKS: u64 = 3;
 }
 
-// What is to be done with a line: nothing, what it says, or to say why it is not understood.
-#[derive(Clone, Copy)]
-pub enum Verdict {
-    Nothing,
-    Call,
-    Wrong(Reason),
-}
-
 // What a line says: its letter and, for each word, its number or its count of bytes, and where it starts.
 #[derive(Clone, Copy)]
 pub struct Line {
-    pub verdict: Verdict,
     pub letter: u8,
     pub values: [u64; 10],
     pub starts: [usize; 10],
-}
-
-impl Line {
-    fn empty(verdict: Verdict) -> Line
-        ensures { result.verdict ≡ verdict }
-    {
-        Line {
-            verdict,
-            letter: 0,
-            values: [0; 10],
-            starts: [0; 10],
-        }
-    }
 }
 
 // The kinds of two words.
@@ -144,14 +123,7 @@ fn kinds_of(letter: u8) -> [Kind; 10]
 pub fn one_of(letter: u8, letters: &[u8]) -> bool
     ensures { result ≡ one_of letter letters.now }
 {
-    let mut i = 0;
-    while i < letters.len() {
-        if letter == letters[i] {
-            return true;
-        }
-        i += 1;
-    }
-    false
+    letters.contains(&letter)
 }
 
 // Whether a letter is a command: of both programs, or of scenetrace alone.
@@ -178,54 +150,48 @@ fn most_scenes(trace: bool) -> u64
 }
 
 // The modes of a table, or that they are not given.
-fn modes(word: &[u8], trace: bool) -> Word
+fn modes(word: &[u8], trace: bool) -> Result<u64, Reason>
     ensures { result ≡ modes_of trace word.now }
 {
     if word.len() == 0 {
-        return Word::Value(Bounds::NOT_GIVEN);
+        return Ok(Bounds::NOT_GIVEN);
     }
     if trace {
         return number(word, 0xFF);
     }
-    Word::Wrong(Reason::TooMany)
+    Err(Reason::TooMany)
 }
 
 // A membership that is told, or `?` for one that is asked for.
-fn membership(word: &[u8], trace: bool) -> Word
+fn membership(word: &[u8], trace: bool) -> Result<u64, Reason>
     ensures { result ≡ member_word trace word.now }
 {
-    if trace {
-        if same(word, b"?") {
-            return Word::Value(Bounds::ASKS);
-        }
-        return number(word, 2);
+    if trace && word == b"?".as_slice() {
+        return Ok(Bounds::ASKS);
     }
     number(word, 2)
 }
 
 // A transition time, or none.
-fn transition(word: &[u8]) -> Word
+fn transition(word: &[u8]) -> Result<u64, Reason>
     ensures { result ≡ override_of word.now }
 {
-    if same(word, b"-") {
-        return Word::Value(Bounds::STORED);
-    }
-    if same(word, b"null") {
-        return Word::Value(Bounds::STORED);
+    if word == b"-".as_slice() || word == b"null".as_slice() {
+        return Ok(Bounds::STORED);
     }
     number(word, 0xFFFF_FFFF)
 }
 
 // Reads a word of a kind, and turns its bytes into those that it spells, in its front.
-fn read_word(word: &mut [u8], kind: Kind, trace: bool) -> Word
+fn read_word(word: &mut [u8], kind: Kind, trace: bool) -> Result<u64, Reason>
     ensures { turned result word.new ≡ read_as (word_says trace kind word.old) word.old }
 {
     match kind {
         Kind::End => {
             if word.len() == 0 {
-                return Word::Value(0);
+                return Ok(0);
             }
-            Word::Wrong(Reason::TooMany)
+            Err(Reason::TooMany)
         }
         Kind::Byte => number(word, 0xFF),
         Kind::Short => number(word, 0xFFFF),
@@ -239,7 +205,7 @@ fn read_word(word: &mut [u8], kind: Kind, trace: bool) -> Word
         Kind::Override => transition(word),
         Kind::Length(most) => {
             if word.len() == 0 {
-                return Word::Value(most);
+                return Ok(most);
             }
             number(word, most)
         }
@@ -249,7 +215,7 @@ fn read_word(word: &mut [u8], kind: Kind, trace: bool) -> Word
 // A word that was read, and its positions.
 #[derive(Clone, Copy)]
 struct Reading {
-    word: Word,
+    word: Result<u64, Reason>,
     from: usize,
     to: usize,
 }
@@ -267,59 +233,48 @@ fn read_next(line: &mut [u8], at: usize, kind: Kind, trace: bool) -> Reading
 }
 
 // Reads the words behind a letter.
-fn read_words(line: &mut [u8], start: usize, letter: u8, trace: bool) -> Line
+fn read_words(line: &mut [u8], start: usize, letter: u8, trace: bool) -> Result<Line, Reason>
     requires { start ≤ length line.old }
     ensures { let text = drop start line.old in
         let left = take start line.old ++ words_left trace (kinds_of letter) text in
-        ReadsLine (words_say trace letter (kinds_of letter) text) left line.new result }
+        ReadsLine (words_say trace letter (kinds_of letter) text) left line.new (words_said result line.new) }
 {
     let kinds = kinds_of(letter);
     let mut values = [0u64; 10];
     let mut starts = [0usize; 10];
     let mut at = start;
-    let mut i = 0;
-    while i < 10 {
-        let got = read_next(line, at, kinds[i], trace);
-        let word = got.word;
-        match word {
-            Word::Value(value) => {
-                values[i] = value;
-                starts[i] = got.from;
-            }
-            Word::Wrong(reason) => {
-                return Line::empty(Verdict::Wrong(reason));
-            }
-        }
+    for (i, kind) in kinds.iter().enumerate() {
+        let got = read_next(line, at, *kind, trace);
+        values[i] = got.word?;
+        starts[i] = got.from;
         at = got.to;
-        i += 1;
     }
-    Line {
-        verdict: Verdict::Call,
+    Ok(Line {
         letter,
         values,
         starts,
-    }
+    })
 }
 
 // Reads a line, and leaves its words as they were read. Empty lines and lines that start with `#` say nothing.
-pub fn read_line(line: &mut [u8], trace: bool) -> Line
-    ensures { ReadsLine (line_says trace line.old) (line_left trace line.old) line.new result }
+pub fn read_line(line: &mut [u8], trace: bool) -> Result<Option<Line>, Reason>
+    ensures { ReadsLine (line_says trace line.old) (line_left trace line.old) line.new (said_of result line.new) }
 {
     let span = next_word(line, 0);
     let from = span.from;
     let to = span.to;
     if line.len() <= from {
-        return Line::empty(Verdict::Nothing);
+        return Ok(None);
     }
     let letter = line[from];
     if letter == b'#' {
-        return Line::empty(Verdict::Nothing);
+        return Ok(None);
     }
     if from + 1 != to {
-        return Line::empty(Verdict::Wrong(Reason::Unknown));
+        return Err(Reason::Unknown);
     }
     if is_known(letter, trace) {
-        return read_words(line, to, letter, trace);
+        return Ok(Some(read_words(line, to, letter, trace)?));
     }
-    Line::empty(Verdict::Wrong(Reason::Unknown))
+    Err(Reason::Unknown)
 }

@@ -29,7 +29,7 @@ pub fn long(value: u64) -> u32
 pub fn member(value: u64) -> Membership
     ensures { result ≡ membership_of (byte value) }
 {
-    Membership::of_number(byte(value))
+    Membership::from(byte(value))
 }
 
 // The scene that the first four words name.

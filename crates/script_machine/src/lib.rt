@@ -26,6 +26,7 @@ use text_output::{Reason, put_error};
 pub struct Machine {
     pub state: ScenesState,
     pub groups: GroupsState,
+    // No `Option` of the head: a run has one before its first table too, and its definition speaks of it (`table_in`, script/specs/Running.antt).
     pub present: bool,
     pub trace: bool,
     pub lines: u64,

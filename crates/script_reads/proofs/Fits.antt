@@ -11,14 +11,14 @@ use Rattle.words.specs.Constants.{success, buffer_too_short, max_scenes, max_fie
 use Rattle.words.specs.Words.{scene_of, within, group_keys}
 use Rattle.words.specs.Below.{kept_below}
 use Rattle.words.proofs.Below.{kept_le}
-use Rattle.words.specs.declared.Found.{Found}
+use Rattle.std.specs.Prelude.{Option, Some, None}
 use Rattle.words.specs.declared.SceneKey.{SceneKey}
 use Rattle.words.specs.declared.GroupKey.{GroupKey}
 use Rattle.slots.specs.Slots.{laid, scenes_inside}
 use Rattle.requests.specs.declared.Membership.{Membership}
 use Rattle.requests.specs.Requests.{membership_of, lookup_gate, group_gate}
-use Rattle.reads.specs.declared.Transition.{Transition}
-use Rattle.reads.specs.declared.Transition.TheVariants.{Stored}
+use Rattle.reads.specs.Reads.{Transition}
+use Rattle.std.specs.Prelude.{None}
 use Rattle.reads.specs.declared.SceneRead.{SceneRead}
 use Rattle.reads.specs.declared.ListRead.{ListRead}
 use Rattle.reads.specs.declared.InfoRead.{InfoRead}
@@ -36,20 +36,19 @@ use Rattle.script_answers.specs.declared.Tail.TheVariants.{Nothing, Scene, Ids, 
 use Rattle.script_answers.specs.Answers.{fits}
 use Rattle.script_answers.proofs.DoneLaws.{fit_called}
 use Rattle.script_reads.specs.Reads.{transition, scene_tail, list_tail, info_tail, view, recall, list, list_in, info, query}
-use Rattle.words.specs.declared.Found.TheVariants as finding
 
 abbrev pub Within : SceneRead → Type 0
 Within r = (r.at ≤ max_scenes) × (r.len ≤ max_fields)
 
 -- a scene that was found in a sound table, and whatever is read behind a guard
 module _ (t : Table) where
-  read-within : (key : SceneKey) (o : Transition) → sound t ≡ true → (x : Found) → find_scene key t ≡ x → Within (read_at x o t)
+  read-within : (key : SceneKey) (o : Transition) → sound t ≡ true → (x : Option ℕ) → find_scene key t ≡ x → Within (read_at x o t)
   unfolding read_at
-  read-within key o s (finding.At p) e =
+  read-within key o s (Some p) e =
       let u = found_under _ _ _ p e in
       let b = sound_bounds t s in
       (omega (arith, u, b.entries, b.most), sound-length t p s u)
-  read-within key o s finding.Nothing e = (omega arith, omega arith)
+  read-within key o s None e = (omega arith, omega arith)
 
   guarded-within : (gate : ℕ) (r : SceneRead) → (sound t ≡ true → Within r) → Within (guarded (unread t) (refusal_of t gate) r)
   unfolding guarded
@@ -61,7 +60,7 @@ module _ (t : Table) where
 
   pub view-within : (key : SceneKey) (m : Membership) → Within (view_scene key m t)
   unfolding view_scene
-  view-within key m = guarded-within (lookup_gate key m) (read_at (find_scene key t) Stored t) (λ s. read-within key Stored s (find_scene key t) refl)
+  view-within key m = guarded-within (lookup_gate key m) (read_at (find_scene key t) None t) (λ s. read-within key None s (find_scene key t) refl)
 
   pub lookup-within : (key : SceneKey) (m : Membership) (o : Transition) → Within (recall_lookup key m o t)
   unfolding recall_lookup

@@ -6,14 +6,14 @@ use mathlib.Core.List.{List}
 use lib.Dec.{eqb, ltb}
 use lib.ListN.{length}
 use Rattle.words.specs.Constants.{success}
-use Rattle.words.specs.declared.Found.{Found}
+use Rattle.std.specs.Prelude.{Option, Some, None}
 use Rattle.words.specs.declared.SceneKey.{SceneKey}
 use Rattle.words.specs.declared.GroupKey.{GroupKey}
 use Rattle.requests.specs.declared.Membership.{Membership}
 use Rattle.state.specs.declared.ScenesState.{ScenesState}
 use Rattle.state.specs.declared.Outcome.{Outcome}
-use Rattle.reads.specs.declared.Transition.{Transition}
-use Rattle.reads.specs.declared.Transition.TheVariants.{Stored}
+use Rattle.reads.specs.Reads.{Transition}
+use Rattle.std.specs.Prelude.{None}
 use Rattle.reads.specs.declared.SceneRead.{SceneRead}
 use Rattle.reads.specs.declared.ListRead.{ListRead}
 use Rattle.reads.specs.declared.InfoRead.{InfoRead}
@@ -24,7 +24,6 @@ use Rattle.reads.specs.Reads.{read_at, view_scene, Listed, listed_of, list_ids, 
 use Rattle.script_answers.specs.declared.Tail.{Tail}
 use Rattle.script_answers.specs.Done.{done_of, read_of, called_of}
 use Rattle.script_reads.specs.Reads.{scene_tail, viewed, recalled, info_tail, informed, list_tail, listed}
-use Rattle.words.specs.declared.Found.TheVariants as finding
 
 -- ---- a read leaves the head as it was
 
@@ -37,14 +36,14 @@ guarded_at : {A : Type 0} (g : A → ScenesState) (s : ScenesState) (refuse : �
 unfolding guarded
 guarded_at g s refuse n o p q = cond_at g s (eqb n success) o (refuse n) q (p n)
 
-read-state : (t : Table) (o : Transition) (x : Found) → (read_at x o t).state ≡ t.state
+read-state : (t : Table) (o : Transition) (x : Option ℕ) → (read_at x o t).state ≡ t.state
 unfolding read_at
-read-state t o (finding.At p) = refl
-read-state t o finding.Nothing = refl
+read-state t o (Some p) = refl
+read-state t o None = refl
 
 pub view-state : (key : SceneKey) (m : Membership) (t : Table) → (view_scene key m t).state ≡ t.state
 unfolding view_scene
-view-state key m t = guarded_at (λ (r : SceneRead). r.state) t.state _ _ _ (λ k. refl) (read-state t Stored (find_scene key t))
+view-state key m t = guarded_at (λ (r : SceneRead). r.state) t.state _ _ _ (λ k. refl) (read-state t None (find_scene key t))
 
 buffer-state : (l : List ℕ) (n : ℕ) (buffer : List ℕ) (t : Table) → (list_ids l n buffer t).read.state ≡ t.state
 unfolding list_ids
@@ -54,10 +53,10 @@ pub list-state : (key : GroupKey) (m : Membership) (buffer : List ℕ) (t : Tabl
 unfolding get_scene_membership
 list-state key m buffer t = guarded_at (λ (r : Listed). r.read.state) t.state _ _ _ (λ k. refl) (buffer-state _ _ buffer t)
 
-row-state : (x : Found) (fabric n : ℕ) (t : Table) → (info_row x fabric n t).state ≡ t.state
+row-state : (x : Option ℕ) (fabric n : ℕ) (t : Table) → (info_row x fabric n t).state ≡ t.state
 unfolding info_row
-row-state (finding.At p) fabric n t = refl
-row-state finding.Nothing fabric n t = cond_at (λ (r : InfoRead). r.state) t.state (eqb n 0) _ _ refl refl
+row-state (Some p) fabric n t = refl
+row-state None fabric n t = cond_at (λ (r : InfoRead). r.state) t.state (eqb n 0) _ _ refl refl
 
 info-state : (fabric endpoint : ℕ) (single : Bool) (t : Table) → (read_fabric_scene_info fabric endpoint single t).state ≡ t.state
 unfolding read_fabric_scene_info

@@ -4,15 +4,14 @@ use Rattle.std.specs.Prelude.{ℕ, ◌^◌, cond, List, eqb}
 use Rattle.words.specs.Constants.{success}
 use Rattle.requests.specs.Requests.{membership_of}
 use Rattle.commands.specs.declared.Applied.{Applied}
-use Rattle.reads.specs.declared.Transition.{Transition}
-use Rattle.reads.specs.declared.Transition.TheVariants.{Stored, Given}
+use Rattle.std.specs.Prelude.{None, Some}
 use Rattle.reads.specs.declared.SceneRead.{SceneRead}
 use Rattle.reads.specs.declared.ListRead.{ListRead}
 use Rattle.reads.specs.declared.InfoRead.{InfoRead}
 use Rattle.state.specs.Table.{Table}
 use Rattle.state.specs.Answer.{Result}
 use Rattle.commands.specs.Commands.{recall_scene}
-use Rattle.reads.specs.Reads.{view_scene, recall_lookup, Listed, get_scene_membership, read_fabric_scene_info}
+use Rattle.reads.specs.Reads.{Transition, view_scene, recall_lookup, Listed, get_scene_membership, read_fabric_scene_info}
 use Rattle.script_lines.specs.Values.{byte, short, long, value_at, scene_key, group_key}
 use Rattle.script_answers.specs.declared.Tail.{Tail}
 use Rattle.script_answers.specs.declared.Tail.TheVariants.{Nothing, Scene, Ids, NoRow, Info}
@@ -24,7 +23,7 @@ applied value = cond (eqb value 0) applying.Failed applying.Yes
 
 -- 2^32, which no time reaches, is no override
 abbrev pub transition : ℕ → Transition
-transition value = cond (eqb value (2 ^ 32)) Stored (Given (long value))
+transition value = cond (eqb value (2 ^ 32)) None (Some (long value))
 
 -- time, position and length of a scene that was found
 abbrev pub scene_tail : SceneRead → Tail

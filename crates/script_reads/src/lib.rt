@@ -7,12 +7,12 @@ ghost use Rattle.script_answers.specs.Done.{done_of, called_of};
 ghost use Rattle.script_reads.specs.Reads.{applied, transition, scene_tail, list_tail, info_tail, view, recall, list, list_in, info, query};
 
 use commands::Applied;
-use reads::{InfoRead, ListRead, SceneRead, Transition};
+use reads::{InfoRead, ListRead, SceneRead};
 use scenes::ScenesHandler;
 use script_answers::{Answer, Row, Tail};
 use script_lines::{Bounds, Line, byte, group_key, long, member, scene_key, short};
 use state::ScenesState;
-use words::{Status, least};
+use words::Status;
 
 // Whether the host applied a scene, by the last word of a recall.
 pub fn applied(value: u64) -> Applied
@@ -25,13 +25,13 @@ pub fn applied(value: u64) -> Applied
 }
 
 // The override of a recall.
-pub fn transition(value: u64) -> Transition
+pub fn transition(value: u64) -> Option<u32>
     ensures { result ≡ transition value }
 {
     if value == Bounds::STORED {
-        return Transition::Stored;
+        return None;
     }
-    Transition::Given(long(value))
+    Some(long(value))
 }
 
 // The time, position and length of a scene that was found.
@@ -170,7 +170,7 @@ fn list_in(
         let after = table_of result.state keys.now times.now fields.now records.now in
         called_of (done_of result after) buffer.new ≡ list_in read.values buffer.old before }
 {
-    let n = least(read.values[4] as usize, buffer.len());
+    let n = (read.values[4] as usize).min(buffer.len());
     list(state, keys, times, fields, records, &mut buffer[..n], read)
 }
 

@@ -3,18 +3,17 @@ use Prim.Native.Nat.{ℕ, zero, suc, ◌+◌, ◌*◌, ◌/◌, ◌%◌, ◌^◌
 use mathlib.Core.Path.{◌≡◌, refl}
 use mathlib.Core.Bool.{Bool, true, false, cond}
 use mathlib.Core.List.{List, [], ◌∷◌, ◌++◌, flat_map}
-use mathlib.Core.Option.{Option, none, some, map}
 use native.Mathlib.Nat.{pow-suc}
 use native.Mathlib.Omega.{arith}
 use lib.Dec.{eqb, ltb}
 use lib.ListN.{length, length-append}
 use borrow.Author.Tests.{ltb-false}
+use Rattle.std.proofs.Common.{Option, Some, None, option_map}
 use Rattle.state.specs.declared.ScenesState.{ScenesState}
 use Rattle.text_output.specs.Writing.{Sheet, puts, writes, Puts, newline, digits_in, decimal, number}
 use Rattle.text_output.proofs.Whole.{puts-text, puts_then, puts_most}
-use Rattle.field_sets.specs.declared.pairs.Pair.TheVariants.{Attribute, NoPair}
-use Rattle.field_sets.specs.declared.sets.FieldSet.TheVariants.{Set, End, NoSet}
-use Rattle.field_sets.specs.Pairs.{pair_at, pairing}
+use Rattle.field_sets.specs.declared.sets.NextSet.TheVariants.{Set, End, NoSet}
+use Rattle.field_sets.specs.Pairs.{pair_at}
 use Rattle.field_sets.specs.Sets.{next_set, setting}
 use Rattle.field_sets.specs.Reader.{ExtensionFieldSet, field_set, attributes_from, sets, sets_in}
 use Rattle.field_sets.proofs.PairLaws.{pair_on}
@@ -68,14 +67,16 @@ module _ (b : List ℕ) where
   attributes-length zero at = omega arith
   attributes-length (suc k) at =
       elim (pair_at b at) as
-      (λ r. pair_at b at ≡ r → length (attributes_text (pairing r [] λ a n. a ∷ attributes_from b k n)) ≤ 11 * suc k) [
-        | Attribute a n ↦ λ e.
+      (λ r. pair_at b at ≡ r → length (attributes_text (attributes_from b (suc k) at)) ≤ 11 * suc k) [
+        | Some p ↦ λ e.
+            let a : ℕ = p.attribute in
+            let n : ℕ = p.next in
             let xs : List ℕ = attributes_from b k n in
             let r = attributes-length k n in
             let o = attribute-length a (length xs) (pair_on b at a n e).2 in
             let l = length-append (attribute_text a (length xs)) (attributes_text xs) in
-            omega arith
-        | NoPair ↦ λ e. omega arith
+            rw e (omega arith)
+        | None ↦ λ e. rw e (omega arith)
       ] refl
 
   set-length : (v f k : ℕ) → v < 2 ^ 32 → length (set_text (field_set v (attributes_from b k f))) ≤ 13 + 11 * k
@@ -90,18 +91,18 @@ module _ (b : List ℕ) where
 
   -- eleven bytes of text for five bytes at most, behind a position
   abbrev Short : ℕ → Option (List ExtensionFieldSet) → Type 0
-  Short at none = Unit
-  Short at (some ss) = 5 * length (each_text ss) + 11 * at ≤ 11 * length b
+  Short at None = Unit
+  Short at (Some ss) = 5 * length (each_text ss) + 11 * at ≤ 11 * length b
 
   more_short :
       (v f k at n : ℕ) (r : Option (List ExtensionFieldSet)) →
       v < 2 ^ 32 →
       at + 5 * k + 8 ≤ n →
       Short n r →
-      Short at (map (λ ss. field_set v (attributes_from b k f) ∷ ss) r)
+      Short at (option_map (λ ss. field_set v (attributes_from b k f) ∷ ss) r)
   unfolding flat_map
-  more_short v f k at n none h w s = tt
-  more_short v f k at n (some ss) h w s =
+  more_short v f k at n None h w s = tt
+  more_short v f k at n (Some ss) h w s =
       let o = set-length v f k h in
       let l = length-append (set_text (field_set v (attributes_from b k f))) (each_text ss) in
       omega (arith, s)
@@ -113,18 +114,18 @@ module _ (b : List ℕ) where
       (elim (next_set b at) as
       (λ r.
       next_set b at ≡ r →
-      Short at (setting r (some []) none λ v f k n. map (λ ss. field_set v (attributes_from b k f) ∷ ss) (sets b j n))) [
-        | Set v f k n ↦ λ e.
-            let w = set-within b at v f k n e in
-            more_short v f k at n (sets b j n) w.small w.roomy (sets-short j n w.inside)
+      Short at (setting r (Some []) None λ s. option_map (λ ss. field_set s.cluster (attributes_from b s.count s.first) ∷ ss) (sets b j s.next))) [
+        | Set s ↦ λ e.
+            let w = set-within b at s.cluster s.first s.count s.next e in
+            more_short s.cluster s.first s.count at s.next (sets b j s.next) w.small w.roomy (sets-short j s.next w.inside)
         | End ↦ λ e. omega arith
         | NoSet ↦ λ e. tt
       ]) refl
 
   text-short : (r : Option (List ExtensionFieldSet)) → Short 0 r → 5 * length (sets_text r) ≤ 11 * length b + 10
-  text-short none h = omega arith
-  text-short (some []) h = omega arith
-  text-short (some (s ∷ ss)) h = omega (arith, h)
+  text-short None h = omega arith
+  text-short (Some []) h = omega arith
+  text-short (Some (s ∷ ss)) h = omega (arith, h)
 
   -- ---- the line, with two digits a byte in a line of at most n bytes
 

@@ -1,8 +1,7 @@
 -- The answer to Y: the extension field sets of field bytes, each as `cluster:attribute,attribute`. Characters are in ASCII codes. Which sets
 -- bytes hold is `sets_in` of field_sets: document 02, Q-2.
-use Rattle.std.specs.Prelude.{ℕ, Bool, true, false, cond, eqb, length}
+use Rattle.std.specs.Prelude.{ℕ, Bool, true, false, cond, eqb, length, Option, Some, None}
 use mathlib.Core.List.{List, [], ◌∷◌, ◌++◌, flat_map}
-use Rattle.std.proofs.Math.Option.{Option, none, some}
 use Rattle.words.specs.Constants.{success, bad_field_sets}
 use Rattle.state.specs.declared.ScenesState.{ScenesState}
 use Rattle.text_output.specs.Writing.{Sheet, puts, writes, newline, decimal, number}
@@ -36,21 +35,21 @@ each_text ss = flat_map set_text ss
 
 -- the bytes are a list of no sets
 abbrev pub no_sets : Option (List ExtensionFieldSet) → Bool
-no_sets none = false
-no_sets (some []) = true
-no_sets (some (s ∷ ss)) = false
+no_sets None = false
+no_sets (Some []) = true
+no_sets (Some (s ∷ ss)) = false
 
 -- ` -` if there are none, and nothing if the bytes are no list of sets
 abbrev pub sets_text : Option (List ExtensionFieldSet) → List ℕ
-sets_text none = []
-sets_text (some []) = 32 ∷ 45 ∷ []
-sets_text (some (s ∷ ss)) = each_text (s ∷ ss)
+sets_text None = []
+sets_text (Some []) = 32 ∷ 45 ∷ []
+sets_text (Some (s ∷ ss)) = each_text (s ∷ ss)
 
 -- ---- the line
 
 abbrev pub sets_status : Option (List ExtensionFieldSet) → ℕ
-sets_status none = bad_field_sets
-sets_status (some ss) = success
+sets_status None = bad_field_sets
+sets_status (Some ss) = success
 
 -- the head of a table as it stands, and nothing to save
 abbrev pub sets_answer : ScenesState → ℕ → Answer

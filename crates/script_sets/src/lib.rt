@@ -1,17 +1,16 @@
 // The answer to a line of a script that asks for the sets in field bytes.
 #![tactic(auto)]
 
-ghost use Rattle.std.specs.Prelude.{◌≡◌, []};
-ghost use Rattle.std.proofs.Math.Option.{IsSome, get_or};
+ghost use Rattle.std.specs.Prelude.{◌≡◌, [], IsSome, unwrap_or};
 ghost use Rattle.text_output.specs.Writing.{sheet, puts};
 ghost use Rattle.field_sets.specs.Reader.{sets_in};
 ghost use Rattle.script_sets.specs.Texts.{cluster_text, attribute_text, each_text, no_sets, sets_text, sets_line};
 
-use field_sets::{Cursor, Item, Total, count_pairs};
+use field_sets::{Cursor, Item, count_pairs};
 use script_answers::{Answer, Tail, put_head};
 use state::ScenesState;
 use text_output::{end_line, put, put_decimal, put_number, put_text};
-use words::{Fault, Status};
+use words::{Refusal, Status};
 
 // A cluster number between a blank and a colon, and `-` where no pair follows.
 fn put_cluster(out: &mut [u8], at: usize, cluster: u32, pairs: usize) -> usize
@@ -38,7 +37,7 @@ fn put_attribute(out: &mut [u8], at: usize, attribute: u32, left: usize) -> usiz
 // The sets, one behind the other.
 fn put_each(out: &mut [u8], at: usize, bytes: &[u8]) -> usize
     requires { IsSome (sets_in bytes.now) }
-    ensures { let sets = get_or (sets_in bytes.now) [] in
+    ensures { let sets = unwrap_or (sets_in bytes.now) [] in
         sheet out.new result ≡ puts (each_text sets) (sheet out.old at) }
 {
     let mut next = at;
@@ -53,12 +52,7 @@ fn put_each(out: &mut [u8], at: usize, bytes: &[u8]) -> usize
                 next = put_attribute(out, next, attribute, behind.left);
                 cursor = behind;
             }
-            Item::Done => {
-                return next;
-            }
-            Item::Refused => {
-                return next;
-            }
+            Item::Done | Item::Refused => return next,
         }
     }
 }
@@ -67,12 +61,7 @@ fn put_each(out: &mut [u8], at: usize, bytes: &[u8]) -> usize
 fn has_none(bytes: &[u8]) -> bool
     ensures { result ≡ no_sets (sets_in bytes.now) }
 {
-    match Cursor::start().next(bytes) {
-        Item::Cluster(_, _) => false,
-        Item::Attribute(_, _) => false,
-        Item::Done => true,
-        Item::Refused => false,
-    }
+    matches!(Cursor::start().next(bytes), Item::Done)
 }
 
 // All sets, or ` -` where there are none.
@@ -90,9 +79,9 @@ fn put_all(out: &mut [u8], at: usize, bytes: &[u8]) -> usize
 pub fn put_sets(out: &mut [u8], at: usize, trace: bool, state: ScenesState, bytes: &[u8]) -> usize
     ensures { sheet out.new result ≡ sets_line trace state bytes.now (sheet out.old at) }
 {
-    let Total::Counted(_) = count_pairs(bytes) else {
+    let Some(_) = count_pairs(bytes) else {
         let refused = Answer {
-            status: Fault::BAD_FIELD_SETS,
+            status: u8::from(Refusal::BadFieldSets),
             save: false,
             state,
             tail: Tail::Nothing,

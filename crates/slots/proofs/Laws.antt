@@ -1,54 +1,24 @@
 -- The laws of what is read of the lent lists and written over them. Assumes nothing.
-use Prim.Native.Nat.{ℕ, zero, suc, ◌+◌, ◌*◌, ◌-◌, ◌/◌, ◌%◌, ◌^◌, ◌≤◌, ◌<◌}
+use Prim.Native.Nat.{ℕ, zero, suc, ◌+◌, ◌*◌, ◌-◌, ◌≤◌, ◌<◌}
 use mathlib.Core.Path.{◌≡◌, refl, sym, ap, ◌∙◌}
-use mathlib.Core.Bool.{Bool, true, false, not, cond, false≢true}
+use mathlib.Core.Bool.{Bool, true, false, not, cond}
 use mathlib.Core.List.{List, [], ◌∷◌, ◌++◌, map, append_assoc, append-nil, map-append}
 use native.Mathlib.Numerals.{add-one}
 use mathlib.Core.Logic.{⊎_elim}
-use native.Mathlib.Nat.{zero-add, not-suc-le-zero, le_of_suc-le-suc, eq-or-lt_of_le}
+use native.Mathlib.Nat.{zero-add, add-sub_cancel_left, le_of_suc-le-suc, eq-or-lt_of_le}
 use native.Mathlib.Omega.{arith}
-use lib.Dec.{ltb, leb}
-use borrow.Author.Tests.{ltb-true, lt-ltb, le-ltb, le-leb, leb-true, leb-false}
 use lib.ListN.{length, take, drop, take-append-drop, get_or, set, length-append, length-set, length-drop, length-map, get_or-append}
 use lib.Seq.{paste, paste-zero, paste-suc, drop-paste, length-paste, drop_at, drop-cons, take-length, length-take-le, take-suc-set, drop-set-lt, append_snoc, set_split, drop-drop, take-append_seam, drop-append_seam, get_or-drop, get_or-take}
-use Rattle.words.proofs.Tests.{and_left, and_right, and_intro, refuted}
+use Rattle.std.specs.List.{copy_within}
+use Rattle.std.proofs.lemmas.List.{set-get_or}
 use Rattle.words.proofs.Below.{kept_none, kept_hit, kept_miss, kept_le, kept_under}
 use Rattle.words.specs.Below.{any_below, count_below, kept_below}
 use Rattle.words.specs.Constants.{stride, max_fields}
-use Rattle.words.specs.Words.{within, fabric_of, scene_of}
+use Rattle.words.specs.Words.{within, scene_of}
 use Rattle.words.specs.declared.KeyRange.{KeyRange}
-use Rattle.words.specs.declared.Found.{Found}
-use Rattle.slots.specs.declared.Search.{Search}
-use Rattle.slots.specs.declared.Search.TheVariants.{Sound, Unsound}
-use Rattle.slots.specs.Slots.{Slots, key_sound, searched, of_four, of_eight, count_keys, length_at, fields_at, length_then, part, overlay, laid, chunks, gathered, outside, scenes_inside, copy_slot}
-
--- ---- a sound key word, by its upper half
-
--- 0xFF00 upper halves, from that of 2^40 on: the others lie past them when that one is taken to 0, modulo 2^32
-abbrev past : ℕ → ℕ
-past key = (key / 2 ^ 32 + (2 ^ 32 - 0x100)) % 2 ^ 32
-
-pub key_tested : (key : ℕ) → key < 2 ^ 64 → leb 0xFF00 (past key) ≡ not (key_sound key)
-key_tested key h =
-    let below = ltb key (2 ^ 48) in
-    let named = leb 1 (fabric_of key) in
-    (elim (leb 0xFF00 (past key)) as (λ b. leb 0xFF00 (past key) ≡ b → b ≡ not (key_sound key)) [
-      | true ↦ λ l. let k = leb-true 0xFF00 (past key) l in
-          sym (ap not (refuted (key_sound key) (λ q.
-          let m = ltb-true key (2 ^ 48) (and_left below named q) in
-          let f = leb-true 1 (fabric_of key) (and_right below named q) in
-          omega arith)))
-      | false ↦ λ l. let k = leb-false 0xFF00 (past key) l in
-          sym (ap not (and_intro below named (lt-ltb key (2 ^ 48) (omega arith)) (le-leb 1 (fabric_of key) (omega arith))))
-    ]) refl
-
--- above a number is not at most it
-pub over_tested : (m x : ℕ) → ltb m x ≡ not (leb x m)
-over_tested m x =
-    (elim (leb x m) as (λ b. leb x m ≡ b → ltb m x ≡ not b) [
-      | true ↦ λ e. le-ltb m x (leb-true x m e)
-      | false ↦ λ e. lt-ltb m x (leb-false x m e)
-    ]) refl
+use Rattle.std.specs.Prelude.{Option, Ok, Err}
+use Rattle.slots.specs.declared.Unsound.{Unsound}
+use Rattle.slots.specs.Slots.{Slots, searched, of_four, of_eight, count_keys, length_at, fields_at, length_then, part, overlay, laid, chunks, gathered, outside, scenes_inside, copy_slot}
 
 -- ---- the positions of a block
 
@@ -62,20 +32,12 @@ eight_any p i = let e : i + 0 ≡ i = omega arith in rw e
 
 -- ---- what a search tells
 
-abbrev is_sound : Search → Bool
-is_sound (Sound f) = true
-is_sound Unsound = false
+pub search_sound : (b : Bool) (f g : Option ℕ) → Ok g ≡ searched b f → (b ≡ true) × (g ≡ f)
+search_sound true f g e = (refl, cc)
+search_sound false f g e = cc
 
-abbrev found_in : Found → Search → Found
-found_in g (Sound f) = f
-found_in g Unsound = g
-
-pub search_sound : (b : Bool) (f g : Found) → Sound g ≡ searched b f → (b ≡ true) × (g ≡ f)
-search_sound true f g e = (refl, ap (found_in g) e)
-search_sound false f g e = absurd (false≢true (sym (ap is_sound e)))
-
-pub search_unsound : (b : Bool) (f : Found) → Unsound ≡ searched b f → b ≡ false
-search_unsound true f e = absurd (false≢true (ap is_sound e))
+pub search_unsound : (b : Bool) (f : Option ℕ) {u : Unsound} → Err u ≡ searched b f → b ≡ false
+search_unsound true f e = cc
 search_unsound false f e = refl
 
 -- ---- lists that are alike from a position on
@@ -109,9 +71,14 @@ length_then_lem f at h l =
 -- ---- what is written over a list
 
 -- the copy of a whole list
-paste_overlay : (old new : List ℕ) (at : ℕ) → paste old at new (length new) ≡ overlay at new old
+pub paste_overlay : (old new : List ℕ) (at : ℕ) → paste old at new (length new) ≡ overlay at new old
 unfolding overlay
 paste_overlay old new at = rw (take-length new)
+
+-- the bytes from one place to another, as `copy_within` copies them
+pub copied_within : (f : List ℕ) (from end to n : ℕ) → end ≡ from + n → from + n ≤ length f → copy_within f from end to ≡ overlay to (part from n f) f
+unfolding overlay
+copied_within f from end to n e h = rw (e, length_part f from n h, add-sub_cancel_left from n)
 
 pub length-overlay : (old new : List ℕ) (at : ℕ) → at + length new ≤ length old → length (overlay at new old) ≡ length old
 length-overlay old new at h = ap length (sym (paste_overlay old new at)) ∙ length-paste old at new (length new) h (omega arith)
@@ -342,11 +309,6 @@ module _ (keys : List ℕ) (r : KeyRange) where
 
 -- ---- a copy to the same position
 
-set_same : (xs : List ℕ) (i : ℕ) → i < length xs → set xs i (get_or xs i 0) ≡ xs
-set_same [] i h = absurd (not-suc-le-zero h)
-set_same (x ∷ xs) zero h = refl
-set_same (x ∷ xs) (suc i) h = ap (λ (ys : List ℕ). x ∷ ys) (set_same xs i (le_of_suc-le-suc h))
-
 overlay-same : (l : List ℕ) (b n : ℕ) → b + n ≤ length l → overlay b (part b n l) l ≡ l
 unfolding overlay
 overlay-same l b n h =
@@ -356,11 +318,11 @@ overlay-same l b n h =
     ∙ ap (λ (r : List ℕ). take b l ++ r) (take-append-drop n (drop b l))
     ∙ take-append-drop b l
 
-pub copy-same : (s : Slots) (i : ℕ) → i < length s.keys → i < length s.times → i * stride + stride ≤ length s.fields → copy_slot i i s ≡ s
+pub copy-same : (s : Slots) (i : ℕ) → i * stride + stride ≤ length s.fields → copy_slot i i s ≡ s
 unfolding copy_slot
-copy-same s i k t f =
+copy-same s i f =
     λ d. record {
-      keys = set_same s.keys i k d;
-      times = set_same s.times i t d;
+      keys = set-get_or s.keys i 0 d;
+      times = set-get_or s.times i 0 d;
       fields = overlay-same s.fields (i * stride) stride f d;
     }

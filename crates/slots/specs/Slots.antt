@@ -1,13 +1,11 @@
 -- The three lent slices that hold the entries, the entry at a position, and what the functions on them compute.
 -- Document 01, "Forms that change first": SceneEntry, and how an entry is moved and written.
-use Rattle.std.specs.Prelude.{ℕ, ◌+◌, ◌*◌, ◌^◌, Bool, not, ◌&&◌, ◌||◌, cond, List, [], ◌∷◌, ◌++◌, map, eqb, leb, ltb, length, take, drop, get_or, set}
+use Rattle.std.specs.Prelude.{ℕ, ◌+◌, ◌*◌, ◌^◌, Bool, not, ◌&&◌, ◌||◌, cond, List, [], ◌∷◌, ◌++◌, map, eqb, leb, ltb, length, take, drop, get_or, set, Option, Result, Ok, Err}
 use Rattle.words.specs.Constants.{stride, max_fields}
 use Rattle.words.specs.Words.{within, fabric_of, scene_of}
 use Rattle.words.specs.Below.{every_below, count_below, first_below, kept_below}
-use Rattle.words.specs.declared.Found.{Found}
 use Rattle.words.specs.declared.KeyRange.{KeyRange}
-use Rattle.slots.specs.declared.Search.{Search}
-use Rattle.slots.specs.declared.Search.TheVariants.{Sound, Unsound}
+use Rattle.slots.specs.declared.Unsound.{Unsound}
 
 -- the lent slices, whole: key words, times, and 129 bytes for each entry
 pub record Slots : Type 0 where
@@ -21,7 +19,7 @@ slots_of k t f = record { keys = k; times = t; fields = f }
 -- ---- what is read
 
 -- the first position below n that holds the key word
-unfoldable pub first_key : List ℕ → ℕ → ℕ → Found
+unfoldable pub first_key : List ℕ → ℕ → ℕ → Option ℕ
 first_key keys n key = first_below (λ i. eqb (get_or keys i 0) key) n
 
 -- how many of the first n key words lie in a range
@@ -47,8 +45,8 @@ abbrev pub entry_sound : List ℕ → List ℕ → ℕ → Bool
 entry_sound keys fields i = key_sound (get_or keys i 0) && leb (length_at fields i) max_fields
 
 -- what a search tells of entries that are sound, or not
-abbrev pub searched : Bool → Found → Search
-searched sound found = cond sound (Sound found) Unsound
+abbrev pub searched : Bool → Option ℕ → Result (Option ℕ) Unsound
+searched sound found = cond sound (Ok found) (Err (record {}))
 
 -- whether p holds at one of four, or of eight, positions from i on: how a block is tested
 abbrev pub of_four : (ℕ → Bool) → ℕ → Bool

@@ -2,20 +2,16 @@
 // slot_writes writes them.
 #![tactic(auto)]
 
-ghost use Rattle.std.specs.Prelude.{◌≡◌, true, not, ◌&&◌, ◌+◌, ◌*◌, ◌<◌, ◌≤◌, length, get_or, eqb, leb};
+ghost use Rattle.std.specs.Prelude.{◌≡◌, true, not, ◌&&◌, ◌+◌, ◌*◌, ◌<◌, ◌≤◌, length, get_or, eqb, leb, None};
 ghost use Rattle.words.specs.Constants.{stride, max_fields};
 ghost use Rattle.words.specs.Below.{every_below};
-ghost use Rattle.words.specs.declared.Found.TheVariants.{Nothing};
 ghost use Rattle.slots.specs.Slots.{first_key, count_keys, keys_sound, lengths_sound, entry_sound, searched, of_four, of_eight, length_at, fields_at, laid, scenes_inside};
 
-use words::{Found, KeyRange, KeyWord, Limits, Slot};
+use words::{KeyRange, KeyWord, Limits, Slot};
 
-// What one walk over the entries tells: that one of them is not sound, or that all are and where a key word stands.
+// What a walk over the entries that also looks for a key word answers where one of them is not sound.
 #[derive(Clone, Copy)]
-pub enum Search {
-    Unsound,
-    Sound(Found),
-}
+pub struct Unsound;
 
 // Whether one of the eight key words from a position on is this one.
 fn in_block(keys: &[u64], at: usize, key: u64) -> bool
@@ -33,86 +29,79 @@ fn in_block(keys: &[u64], at: usize, key: u64) -> bool
 }
 
 // The first of the first n positions that holds the key word, if it does not stand below a position.
-fn find_from(keys: &[u64], from: usize, n: usize, key: u64) -> Found
+fn find_from(keys: &[u64], from: usize, n: usize, key: u64) -> Option<usize>
     requires from_le_n { from ≤ n }
     requires n_in_bounds { n ≤ length keys.now }
-    requires key_value { first_key keys.now from key ≡ Nothing }
+    requires key_value { first_key keys.now from key ≡ None }
     ensures { result ≡ first_key keys.now n key }
 {
-    let mut i = from;
-    while i < n {
+    for i in from..n {
         if keys[i] == key {
-            return Found::At(i);
+            return Some(i);
         }
-        i += 1;
     }
-    Found::Nothing
+    None
 }
 
 // The first of the positions up to the fourth from one on that holds the key word, if it does not stand below that one.
-fn find_in_four(keys: &[u64], at: usize, key: u64) -> Found
+fn find_in_four(keys: &[u64], at: usize, key: u64) -> Option<usize>
     requires at_in_bounds { at + 4 ≤ length keys.now }
-    requires key_value { first_key keys.now at key ≡ Nothing }
+    requires key_value { first_key keys.now at key ≡ None }
     ensures { result ≡ first_key keys.now (at + 4) key }
 {
     if keys[at] == key {
-        return Found::At(at);
+        return Some(at);
     }
     if keys[at + 1] == key {
-        return Found::At(at + 1);
+        return Some(at + 1);
     }
     if keys[at + 2] == key {
-        return Found::At(at + 2);
+        return Some(at + 2);
     }
     if keys[at + 3] == key {
-        return Found::At(at + 3);
+        return Some(at + 3);
     }
-    Found::Nothing
+    None
 }
 
 // The same of eight positions.
-fn find_in_eight(keys: &[u64], at: usize, key: u64) -> Found
+fn find_in_eight(keys: &[u64], at: usize, key: u64) -> Option<usize>
     requires at_in_bounds { at + 8 ≤ length keys.now }
-    requires key_value { first_key keys.now at key ≡ Nothing }
+    requires key_value { first_key keys.now at key ≡ None }
     ensures { result ≡ first_key keys.now (at + 8) key }
 {
-    let Found::At(found) = find_in_four(keys, at, key) else {
-        return find_in_four(keys, at + 4, key);
-    };
-    Found::At(found)
+    if let Some(found) = find_in_four(keys, at, key) {
+        return Some(found);
+    }
+    find_in_four(keys, at + 4, key)
 }
 
-// The first of the first n positions that holds the key word, in steps of eight.
-pub fn find(keys: &[u64], n: usize, key: u64) -> Found
+// The first of the first n positions that holds the key word, in steps of eight: `position` over the key words takes 5.0 instructions an
+// entry in place of 2.5, and 14 ns in place of 8 at 16 entries.
+pub fn find(keys: &[u64], n: usize, key: u64) -> Option<usize>
     requires { n ≤ length keys.now }
     ensures { result ≡ first_key keys.now n key }
 {
     let mut i = 0;
     while 8 <= n - i {
-        match find_in_eight(keys, i, key) {
-            Found::At(at) => {
-                return Found::At(at);
-            }
-            Found::Nothing => {
-                i += 8;
-            }
+        if let Some(found) = find_in_eight(keys, i, key) {
+            return Some(found);
         }
+        i += 8;
     }
     find_from(keys, i, n, key)
 }
 
-// How many of the first n key words lie in a range.
+// How many of the first n key words lie in a range. A loop, since `filter` and `count` take 8.2 instructions an entry in place of 2.8.
 pub fn count(keys: &[u64], n: usize, range: KeyRange) -> usize
     requires { n ≤ length keys.now }
     ensures { result ≡ count_keys keys.now n range }
 {
     let mut count: usize = 0;
-    let mut i = 0;
-    while i < n {
-        if range.holds(keys[i]) {
+    for word in &keys[..n] {
+        if range.holds(*word) {
             count += 1;
         }
-        i += 1;
     }
     count
 }
@@ -153,7 +142,8 @@ fn unsound_in_block(keys: &[u64], fields: &[u8], at: usize) -> bool
         | is_unsound(keys, fields, at + 3)
 }
 
-// A position of the first n, found in steps of four from one on below which every entry is sound, of which the same holds.
+// A position of the first n, found in steps of four from one on below which every entry is sound, of which the same holds. One entry at a
+// time takes 13.0 instructions each in place of 5.8, and 1,327 ns in place of 702 at 1,023 entries.
 fn sound_blocks(keys: &[u64], fields: &[u8], from: usize, n: usize) -> usize
     requires from_le_n { from ≤ n }
     requires n_in_bounds { n ≤ length keys.now }
@@ -179,12 +169,10 @@ fn sound_from(keys: &[u64], fields: &[u8], from: usize, n: usize) -> bool
     requires from_value { every_below (λ i. entry_sound keys.now fields.now i) from ≡ true }
     ensures { result ≡ (keys_sound keys.now n && lengths_sound fields.now n) }
 {
-    let mut i = from;
-    while i < n {
+    for i in from..n {
         if is_unsound(keys, fields, i) {
             return false;
         }
-        i += 1;
     }
     true
 }
@@ -199,12 +187,13 @@ pub fn entries_sound(keys: &[u64], fields: &[u8], n: usize) -> bool
     sound_from(keys, fields, from, n)
 }
 
-// A position of the first n, found in steps of eight, below which every entry is sound and the key word does not stand.
+// A position of the first n, found in steps of eight, below which every entry is sound and the key word does not stand. One entry at a time
+// the search that begins here takes 23.0 instructions each in place of 7.1, and 1,673 ns in place of 806 at 1,023 entries.
 fn pass_blocks(keys: &[u64], fields: &[u8], n: usize, key: u64) -> usize
     requires n_in_bounds { n ≤ length keys.now }
     requires stride_in_bounds { n * stride ≤ length fields.now }
     ensures { let every = every_below (λ i. entry_sound keys.now fields.now i) result in
-        (result ≤ n) × (every ≡ true) × (first_key keys.now result key ≡ Nothing) }
+        (result ≤ n) × (every ≡ true) × (first_key keys.now result key ≡ None) }
 {
     let mut at = 0;
     while 8 <= n - at {
@@ -223,7 +212,12 @@ fn pass_blocks(keys: &[u64], fields: &[u8], n: usize, key: u64) -> usize
 }
 
 // Whether each of the first n entries is sound and, if so, the first position that holds the key word: one walk over the key words.
-pub fn search_entries(keys: &[u64], fields: &[u8], n: usize, key: u64) -> Search
+pub fn search_entries(
+    keys: &[u64],
+    fields: &[u8],
+    n: usize,
+    key: u64,
+) -> Result<Option<usize>, Unsound>
     requires n_in_bounds { n ≤ length keys.now }
     requires stride_in_bounds { n * stride ≤ length fields.now }
     ensures { let every = keys_sound keys.now n && lengths_sound fields.now n in
@@ -232,9 +226,9 @@ pub fn search_entries(keys: &[u64], fields: &[u8], n: usize, key: u64) -> Search
     let from = pass_blocks(keys, fields, n, key);
     let tested = sound_blocks(keys, fields, from, n);
     if sound_from(keys, fields, tested, n) {
-        return Search::Sound(find_from(keys, from, n, key));
+        return Ok(find_from(keys, from, n, key));
     }
-    Search::Unsound
+    Err(Unsound)
 }
 
 // How many field bytes the entry at a position has.
@@ -264,16 +258,11 @@ pub fn list_scenes(keys: &[u64], n: usize, range: KeyRange, ids: &mut [u8]) -> u
     ensures { let listed = scenes_inside keys.now n range in
         (result ≡ count_keys keys.now n range) × (ids.new ≡ laid listed ids.old) }
 {
-    let mut i = 0;
     let mut j = 0;
-    while i < n {
-        let word = keys[i];
-        if range.holds(word) {
-            ids[j] = words::scene_of(word);
-            i += 1;
+    for word in &keys[..n] {
+        if range.holds(*word) {
+            ids[j] = words::scene_of(*word);
             j += 1;
-        } else {
-            i += 1;
         }
     }
     j

@@ -2,8 +2,7 @@
 use Rattle.std.proofs.Common.{◌≡◌, ℕ, ◌-◌, ◌/◌, ◌<◌, ◌≤◌, min, true, false, cond, not, eqb, ltb, ◌⊎◌, ◌↔◌, List, sym, refl, ap, ◌∙◌, inl, inr, arith, ltb-false, ltb-true, le-ltb, lt-ltb, eq-eqb, ne_eqb}
 use Rattle.words.specs.Constants.{max_remaining}
 use Rattle.words.specs.Below.{count_below}
-use Rattle.words.specs.declared.Found.{Found}
-use Rattle.words.specs.declared.Found.TheVariants.{At, Nothing}
+use Rattle.std.specs.Prelude.{Option, Some, None}
 use Rattle.slots.specs.Slots.{count_keys}
 use Rattle.state.specs.declared.ScenesState.{ScenesState}
 use Rattle.state.specs.Capacity.{room_for, remaining, share_mode, places_for, may_append, place_for, byte_remaining, ByCap, ByShare}
@@ -93,21 +92,21 @@ by_share = record { without = may_free; within = within; uncut = uncut; free = p
 
 module _ (s : ScenesState) (keys : List ℕ) (fabric : ℕ) where
   -- where its key was found, or behind the last entry
-  pub placed : (f : Found) (p : ℕ) → place_for s keys fabric f ≡ At p → (f ≡ At p) ⊎ ((f ≡ Nothing) × (may_append s keys fabric ≡ true) × (s.entries ≡ p))
+  pub placed : (f : Option ℕ) (p : ℕ) → place_for s keys fabric f ≡ Some p → (f ≡ Some p) ⊎ ((f ≡ None) × (may_append s keys fabric ≡ true) × (s.entries ≡ p))
   unfolding place_for
-  placed (At q) p e = inl e
-  placed Nothing p e =
-      (elim (may_append s keys fabric) as (λ b. may_append s keys fabric ≡ b → cond b (At s.entries) Nothing ≡ At p → (Nothing ≡ At p) ⊎ ((Nothing ≡ Nothing) × (may_append s keys fabric ≡ true) × (s.entries ≡ p))) [
+  placed (Some q) p e = inl e
+  placed None p e =
+      (elim (may_append s keys fabric) as (λ b. may_append s keys fabric ≡ b → cond b (Some s.entries) None ≡ Some p → (◌≡◌ {A = Option ℕ} None (Some p)) ⊎ ((◌≡◌ {A = Option ℕ} None None) × (may_append s keys fabric ≡ true) × (s.entries ≡ p))) [
         | true ↦ λ m q. inr (refl, m, cc)
         | false ↦ λ m q. inl q
       ]) refl e
 
   -- nowhere: its key is new, and no more entry fits
-  pub unplaced : (f : Found) → place_for s keys fabric f ≡ Nothing → (f ≡ Nothing) × (may_append s keys fabric ≡ false)
+  pub unplaced : (f : Option ℕ) → place_for s keys fabric f ≡ None → (f ≡ None) × (may_append s keys fabric ≡ false)
   unfolding place_for
-  unplaced (At q) e = let z : ◌≡◌ {A = ℕ} 0 1 = cc in let w : ⊥ = omega arith in absurd w
-  unplaced Nothing e =
-      (elim (may_append s keys fabric) as (λ b. may_append s keys fabric ≡ b → cond b (At s.entries) Nothing ≡ Nothing → (◌≡◌ {A = Found} Nothing Nothing) × (may_append s keys fabric ≡ false)) [
+  unplaced (Some q) e = let z : ◌≡◌ {A = ℕ} 0 1 = cc in let w : ⊥ = omega arith in absurd w
+  unplaced None e =
+      (elim (may_append s keys fabric) as (λ b. may_append s keys fabric ≡ b → cond b (Some s.entries) None ≡ None → (◌≡◌ {A = Option ℕ} None None) × (may_append s keys fabric ≡ false)) [
         | true ↦ λ m q. let z : ◌≡◌ {A = ℕ} 0 1 = cc in let w : ⊥ = omega arith in absurd w
         | false ↦ λ m q. (refl, m)
       ]) refl e

@@ -1,7 +1,7 @@
 -- From what an operation answered and left to what a definition says of the table. Assumes nothing.
 use Rattle.std.proofs.Common.{◌≡◌, ℕ, ◌≤◌, List, ap, ◌∙◌, arith}
 use Rattle.words.specs.Words.{word_of}
-use Rattle.words.specs.declared.Found.{Found}
+use Rattle.std.specs.Prelude.{Option}
 use Rattle.words.specs.declared.SceneKey.{SceneKey}
 use Rattle.words.specs.declared.KeyRange.{KeyRange}
 use Rattle.slots.specs.Slots.{first_key}
@@ -12,7 +12,7 @@ use Rattle.state.specs.Change.{find_scene, swap_remove, retain_outside}
 
 -- ---- the scene that a command names: w is its key word, f what a search for it found
 
-pub found-scene : (key : SceneKey) (t : Table) (w : ℕ) (f : Found)
+pub found-scene : (key : SceneKey) (t : Table) (w : ℕ) (f : Option ℕ)
     → w ≡ word_of key
     → f ≡ first_key t.slots.keys t.state.entries w
     → f ≡ find_scene key t

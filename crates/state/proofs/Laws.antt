@@ -3,8 +3,7 @@ use Rattle.std.proofs.Common.{◌≡◌, ℕ, ◌+◌, ◌*◌, ◌<◌, ◌≤�
 use mathlib.Core.Path.{subst⁻¹}
 use Rattle.words.specs.Constants.{max_scenes, max_fields, stride, success, insufficient_space}
 use Rattle.words.specs.Words.{word_of}
-use Rattle.words.specs.declared.Found.{Found}
-use Rattle.words.specs.declared.Found.TheVariants.{At, Nothing}
+use Rattle.std.specs.Prelude.{Option, Some, None}
 use Rattle.words.specs.declared.SceneKey.{SceneKey}
 use Rattle.words.proofs.Tests.{all_head, all_tail}
 use Rattle.words.proofs.Below.{every_at, first_under}
@@ -64,14 +63,14 @@ unfolding sound lengths_sound
 sound-length t at e h = leb-true _ _ (every_at _ t.state.entries at h (all_head _ _ (all_tail _ _ (all_tail _ _ e))))
 
 -- what was found is an entry
-pub found_under : (keys : List ℕ) (n key p : ℕ) → first_key keys n key ≡ At p → p < n
+pub found_under : (keys : List ℕ) (n key p : ℕ) → first_key keys n key ≡ Some p → p < n
 unfolding first_key
 found_under keys n key p e = (first_under _ n p e).0
 
 -- a scene's place is one of the table's
 pub placed_within : (key : SceneKey) (t : Table) (p : ℕ)
     → t.state.entries ≤ t.state.size
-    → place_for t.state t.slots.keys key.fabric (find_scene key t) ≡ At p
+    → place_for t.state t.slots.keys key.fabric (find_scene key t) ≡ Some p
     → p < t.state.size
 placed_within key t p h e =
     ⊎_elim
@@ -83,33 +82,33 @@ placed_within key t p h e =
 
 -- what was not found, by whether one more entry fits
 pub may_decide : (key : SceneKey) (time : ℕ) (ext : List ℕ) (t : Table) {b : Bool}
-    → find_scene key t ≡ Nothing
+    → find_scene key t ≡ None
     → may_append t.state t.slots.keys key.fabric ≡ b
     → cond b (written key (with_entries (append key time ext) t)) (upserted_of insufficient_space t) ≡ upsert key time ext t
 unfolding upsert upsert_at
 may_decide key time ext t e m =
     ap (λ (b : Bool). cond b (written key (with_entries (append key time ext) t)) (upserted_of insufficient_space t)) (sym m)
-    ∙ ap (λ (f : Found). upsert_at f key time ext t) (sym e)
+    ∙ ap (λ (f : Option ℕ). upsert_at f key time ext t) (sym e)
 
 -- without the share mode
-plain_at_lem : (f : Found) (key : SceneKey) (time : ℕ) (ext : List ℕ) (t : Table) → share_mode t.state ≡ false → upsert_at f key time ext t ≡ plain_at f key time ext t
+plain_at_lem : (f : Option ℕ) (key : SceneKey) (time : ℕ) (ext : List ℕ) (t : Table) → share_mode t.state ≡ false → upsert_at f key time ext t ≡ plain_at f key time ext t
 unfolding upsert_at
-plain_at_lem (At p) key time ext t e = refl
-plain_at_lem Nothing key time ext t e =
+plain_at_lem (Some p) key time ext t e = refl
+plain_at_lem None key time ext t e =
     ap (λ (b : Bool). cond b (written key (with_entries (append key time ext) t)) (upserted_of insufficient_space t)) (may_free t.state t.slots.keys key.fabric e)
 
 pub upsert_by_share : UpsertByShare
 unfolding upsert upsert_at
 upsert_by_share = record {
   without = λ key time ext t e. plain_at_lem (find_scene key t) key time ext t e;
-  known = λ key time ext t p e. ap (λ (f : Found). upsert_at f key time ext t) e;
+  known = λ key time ext t p e. ap (λ (f : Option ℕ). upsert_at f key time ext t) e;
 }
 
 -- the slots and the records that the code leaves are the definition's; w is the key's word
 
 module _ (key : SceneKey) (time : ℕ) (ext : List ℕ) (t : Table) (s : ScenesState) (k tm f r : List ℕ) (w : ℕ) (word : w ≡ word_of key) where
   upsert-known : (p : ℕ)
-      → find_scene key t ≡ At p
+      → find_scene key t ≡ Some p
       → slots_of k tm f ≡ put_slot p w time ext t.slots
       → current_of s r ≡ invalidate_current (Scene key) (current_of t.state t.records)
       → upserted_of success (table_of s k tm f r) ≡ upsert key time ext t
@@ -119,7 +118,7 @@ module _ (key : SceneKey) (time : ℕ) (ext : List ℕ) (t : Table) (s : ScenesS
       rw e (λ i. upserted_of success (record { state = (e2 i).state; slots = put i; records = (e2 i).records }))
 
   upsert-new :
-      find_scene key t ≡ Nothing
+      find_scene key t ≡ None
       → may_append t.state t.slots.keys key.fabric ≡ true
       → slots_of k tm f ≡ put_slot t.state.entries w time ext t.slots
       → current_of s r ≡ invalidate_current (Scene key) (current_of (with_entry_count (t.state.entries + 1) t.state) t.records)
@@ -137,7 +136,7 @@ module _ (key : SceneKey) (time : ℕ) (ext : List ℕ) (t : Table) (s : ScenesS
 
   -- at its place, wherever that is
   pub upsert_placed : (p : ℕ)
-      → place_for t.state t.slots.keys key.fabric (find_scene key t) ≡ At p
+      → place_for t.state t.slots.keys key.fabric (find_scene key t) ≡ Some p
       → slots_of k tm f ≡ put_slot p w time ext t.slots
       → left (eqb p t.state.entries) p
       → upserted_of success (table_of s k tm f r) ≡ upsert key time ext t
@@ -158,10 +157,10 @@ pub record SameHead (t : Table) (u : Upserted) : Type 0 where
   pub size : u.table.state.size ≡ t.state.size
   pub modes : u.table.state.modes ≡ t.state.modes
 
-at_head : (f : Found) (key : SceneKey) (time : ℕ) (ext : List ℕ) (t : Table) → SameHead t (upsert_at f key time ext t)
+at_head : (f : Option ℕ) (key : SceneKey) (time : ℕ) (ext : List ℕ) (t : Table) → SameHead t (upsert_at f key time ext t)
 unfolding upsert_at put_at append invalidate_current
-at_head (At p) key time ext t = record { recorded = refl; size = refl; modes = refl }
-at_head Nothing key time ext t =
+at_head (Some p) key time ext t = record { recorded = refl; size = refl; modes = refl }
+at_head None key time ext t =
     elim (may_append t.state t.slots.keys key.fabric) as (λ b. SameHead t (cond b (written key (with_entries (append key time ext) t)) (upserted_of insufficient_space t))) [
       | true ↦ record { recorded = refl; size = refl; modes = refl }
       | false ↦ record { recorded = refl; size = refl; modes = refl }

@@ -1,10 +1,8 @@
 -- The remaining capacity of a fabric, and whether a new scene of it finds a place: document 01, "Capacity" and "Upsert", with the cap of
 -- document 02, Q-4, and its share mode, Q-5.
-use Rattle.std.specs.Prelude.{◌≡◌, ℕ, ◌-◌, ◌/◌, ◌%◌, ◌≤◌, min, Bool, true, false, cond, not, ◌↔◌, List, ◌==◌, nat_lt}
+use Rattle.std.specs.Prelude.{◌≡◌, ℕ, ◌-◌, ◌/◌, ◌%◌, ◌≤◌, min, Bool, true, false, cond, not, ◌↔◌, List, ◌==◌, nat_lt, Option, Some, None}
 use Rattle.words.specs.Constants.{max_shown, max_remaining}
 use Rattle.words.specs.Words.{fabric_keys}
-use Rattle.words.specs.declared.Found.{Found}
-use Rattle.words.specs.declared.Found.TheVariants.{At, Nothing}
 use Rattle.slots.specs.Slots.{count_keys}
 use Rattle.state.specs.declared.ScenesState.{ScenesState}
 
@@ -33,9 +31,9 @@ abbrev pub may_append : ScenesState → List ℕ → ℕ → Bool
 may_append s keys fabric = nat_lt 0 (places_for s keys fabric)
 
 -- where a scene is written, if anywhere: where its key was found, or else behind the last entry, if one more fits
-unfoldable pub place_for : ScenesState → List ℕ → ℕ → Found → Found
-place_for s keys fabric (At p) = At p
-place_for s keys fabric Nothing = cond (may_append s keys fabric) (At s.entries) Nothing
+unfoldable pub place_for : ScenesState → List ℕ → ℕ → Option ℕ → Option ℕ
+place_for s keys fabric (Some p) = Some p
+place_for s keys fabric None = cond (may_append s keys fabric) (Some s.entries) None
 
 -- ---- the theorem of Q-4: what the smaller cap changes
 

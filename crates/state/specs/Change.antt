@@ -1,10 +1,8 @@
 -- What upserting, removing and retaining make of a table: document 01, "Upsert", and of "Commands" what remove and remove all do
 -- to the entries.
-use Rattle.std.specs.Prelude.{◌≡◌, ℕ, ◌+◌, ◌-◌, false, cond, List, length, ◌==◌, nat_lt}
+use Rattle.std.specs.Prelude.{◌≡◌, ℕ, ◌+◌, ◌-◌, false, cond, List, length, ◌==◌, nat_lt, Option, Some, None}
 use Rattle.words.specs.Constants.{success, insufficient_space}
 use Rattle.words.specs.Words.{word_of}
-use Rattle.words.specs.declared.Found.{Found}
-use Rattle.words.specs.declared.Found.TheVariants.{At, Nothing}
 use Rattle.words.specs.declared.KeyRange.{KeyRange}
 use Rattle.words.specs.declared.SceneKey.{SceneKey}
 use Rattle.slots.specs.Slots.{first_key, put_slot, copy_slot, outside, gathered}
@@ -15,7 +13,7 @@ use Rattle.state.specs.Current.{invalidate_current}
 use Rattle.state.specs.Answer.{Result, result_of}
 
 -- where a scene stands: the first match
-abbrev pub find_scene : SceneKey → Table → Found
+abbrev pub find_scene : SceneKey → Table → Option ℕ
 find_scene key t = first_key t.slots.keys t.state.entries (word_of key)
 
 -- ---- upsert
@@ -40,18 +38,18 @@ abbrev pub written : SceneKey → Table → Upserted
 written key t = upserted_of success (with_current (invalidate_current (Scene key)) t)
 
 -- a known key gets new time and fields, whether or not there is a place; otherwise 0x89 where one more does not fit, else an append
-unfoldable pub upsert_at : Found → SceneKey → ℕ → List ℕ → Table → Upserted
-upsert_at (At p) key time ext t = written key (with_entries (put_at p key time ext) t)
-upsert_at Nothing key time ext t =
+unfoldable pub upsert_at : Option ℕ → SceneKey → ℕ → List ℕ → Table → Upserted
+upsert_at (Some p) key time ext t = written key (with_entries (put_at p key time ext) t)
+upsert_at None key time ext t =
     cond (may_append t.state t.slots.keys key.fabric) (written key (with_entries (append key time ext) t)) (upserted_of insufficient_space t)
 
 unfoldable pub upsert : SceneKey → ℕ → List ℕ → Table → Upserted
 upsert key time ext t = upsert_at (find_scene key t) key time ext t
 
 -- the upsert of document 01, by which 0x89 means a full table
-abbrev pub plain_at : Found → SceneKey → ℕ → List ℕ → Table → Upserted
-plain_at (At p) key time ext t = written key (with_entries (put_at p key time ext) t)
-plain_at Nothing key time ext t =
+abbrev pub plain_at : Option ℕ → SceneKey → ℕ → List ℕ → Table → Upserted
+plain_at (Some p) key time ext t = written key (with_entries (put_at p key time ext) t)
+plain_at None key time ext t =
     cond (nat_lt t.state.entries t.state.size) (written key (with_entries (append key time ext) t)) (upserted_of insufficient_space t)
 
 -- the theorem of Q-5 about adds and stores: without the share mode an upsert is that one, and in it too where the key is known. No other
@@ -59,8 +57,8 @@ plain_at Nothing key time ext t =
 pub record UpsertByShare : Type 0 where
   pub without : (key : SceneKey) (time : ℕ) (ext : List ℕ) (t : Table) → share_mode t.state ≡ false
       → upsert key time ext t ≡ plain_at (find_scene key t) key time ext t
-  pub known : (key : SceneKey) (time : ℕ) (ext : List ℕ) (t : Table) (p : ℕ) → find_scene key t ≡ At p
-      → upsert key time ext t ≡ plain_at (At p) key time ext t
+  pub known : (key : SceneKey) (time : ℕ) (ext : List ℕ) (t : Table) (p : ℕ) → find_scene key t ≡ Some p
+      → upsert key time ext t ≡ plain_at (Some p) key time ext t
 
 -- the save mark is set for status 0
 abbrev pub saved : Upserted → Result

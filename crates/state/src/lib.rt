@@ -5,13 +5,17 @@
 mod current;
 mod table;
 
-ghost use Rattle.std.specs.Prelude.{◌≡◌, false};
+ghost use Rattle.std.specs.Prelude.{◌≡◌, true, false};
+ghost use Rattle.words.specs.Constants.{success};
+ghost use Rattle.words.specs.Refusals.{number_of};
 ghost use Rattle.state.specs.Table.{new_state, new_state_with, with_entry_count, with_record_count};
+
+use words::{Refusal, Status};
 
 // The head of a scene table. Its memory is lent to each operation: a key word, a time and 129 field bytes for each of `size`
 // entries, and a record word for each of `size` records.
 #[repr(C)]
-#[derive(Clone, Copy)]
+#[derive(Clone, Copy, PartialEq, Eq)]
 pub struct ScenesState {
     // N: how many entries, and how many records, the table can hold.
     pub size: usize,
@@ -36,7 +40,7 @@ impl Modes {
 // What a command answers: the head, its status or fault, and whether the host has to save the table. The head is in front, here and
 // below: behind single bytes it would be copied across the words it consists of.
 #[repr(C)]
-#[derive(Clone, Copy)]
+#[derive(Clone, Copy, PartialEq, Eq)]
 pub struct Outcome {
     pub state: ScenesState,
     pub status: u8,
@@ -51,6 +55,24 @@ impl Outcome {
         Outcome {
             status,
             save: false,
+            state,
+        }
+    }
+
+    // The same, by the refusal itself.
+    pub fn refused_by(refusal: Refusal, state: ScenesState) -> Outcome
+        ensures { result ≡ record { status = number_of refusal; save = false; state = state } }
+    {
+        Outcome::unsaved(u8::from(refusal), state)
+    }
+
+    // A success after which the host has to save the table.
+    pub fn saved(state: ScenesState) -> Outcome
+        ensures { result ≡ record { status = success; save = true; state = state } }
+    {
+        Outcome {
+            status: Status::SUCCESS,
+            save: true,
             state,
         }
     }

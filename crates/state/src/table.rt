@@ -11,15 +11,8 @@ ghost use Rattle.state.specs.Change.{saved, upsert, swap_remove, retain_outside}
 
 use crate::{Modes, Outcome, ScenesState};
 use records::Scope;
-use slots::Search;
-use words::{Found, KeyRange, Limits, SceneKey, Slot, Status, least};
-
-// a - b, or 0.
-fn saturating_sub(a: usize, b: usize) -> usize
-    ensures { result ≡ a - b }
-{
-    if b < a { a - b } else { 0 }
-}
+use slots::Unsound;
+use words::{KeyRange, Limits, Refusal, SceneKey, Slot};
 
 impl ScenesState {
     // Whether the counts are within the size, and the size within slices of these lengths.
@@ -75,7 +68,7 @@ impl ScenesState {
         fields: &[u8],
         records: &[u64],
         key: u64,
-    ) -> Search
+    ) -> Result<Option<usize>, Unsound>
         ensures { let table = table_of self keys.now times.now fields.now records.now in
             result ≡ searched (sound table) (first_key keys.now self.entries key) }
     {
@@ -86,7 +79,7 @@ impl ScenesState {
                 return slots::search_entries(keys, fields, entries, key);
             }
         }
-        Search::Unsound
+        Err(Unsound)
     }
 
     // How many scenes a fabric may still copy and, in share mode, add, before that is cut. A full table has room for none, whatever the fabric uses.
@@ -100,9 +93,9 @@ impl ScenesState {
             return 0;
         }
         let used = slots::count(keys, entries, KeyRange::Fabric(fabric));
-        let per_fab_remaining = saturating_sub((size - 1) / 2, used);
+        let per_fab_remaining = ((size - 1) / 2).saturating_sub(used);
         let global_remaining = size - entries;
-        least(per_fab_remaining, global_remaining)
+        per_fab_remaining.min(global_remaining)
     }
 
     // A fabric's remaining capacity, as it is reported. A copy looks at the room itself.
@@ -111,7 +104,7 @@ impl ScenesState {
         ensures { result ≡ remaining self keys.now fabric }
     {
         let room = self.room_for_fab(keys, fabric);
-        least(room, Limits::MAX_REMAINING_CAPACITY) as u8
+        room.min(Limits::MAX_REMAINING_CAPACITY) as u8
     }
 
     // Whether a fabric's share limits every new scene.
@@ -133,18 +126,18 @@ impl ScenesState {
     }
 
     // Where a scene of a fabric is written: where its key was found, or behind the last entry, if one more fits.
-    pub fn place(self, keys: &[u64], found: Found, fabric: u8) -> Found
+    pub fn place(self, keys: &[u64], found: Option<usize>, fabric: u8) -> Option<usize>
         requires { self.entries ≤ length keys.now }
         ensures { result ≡ place_for self keys.now fabric found }
     {
-        let Found::At(at) = found else {
+        let Some(at) = found else {
             let n = self.entries;
             if self.may_append(keys, fabric) {
-                return Found::At(n);
+                return Some(n);
             }
-            return Found::Nothing;
+            return None;
         };
-        Found::At(at)
+        Some(at)
     }
 
     // The head of a table with an entry written at a position: one more, if it is behind the last.
@@ -167,7 +160,7 @@ impl ScenesState {
         times: &mut [u32],
         fields: &mut [u8],
         records: &mut [u64],
-        place: Found,
+        place: Option<usize>,
         key: SceneKey,
         time: u32,
         ext: &[u8],
@@ -179,16 +172,12 @@ impl ScenesState {
             let after = table_of result.state keys.new times.new fields.new records.new in
             result_of result.status result.save after ≡ saved (upsert key time ext.now before) }
     {
-        let Found::At(at) = place else {
-            return Outcome::unsaved(Status::SC_INSUFFICIENT_SPACE, self);
+        let Some(at) = place else {
+            return Outcome::refused_by(Refusal::InsufficientSpace, self);
         };
         slot_writes::put(keys, times, fields, at, key.word(), time, ext);
         let state = self.with_entry(at);
-        Outcome {
-            status: Status::SUCCESS,
-            save: true,
-            state: state.invalidate_current(records, Scope::Scene(key)),
-        }
+        Outcome::saved(state.invalidate_current(records, Scope::Scene(key)))
     }
 
     // Removes the entry at a position: the last one takes its place.

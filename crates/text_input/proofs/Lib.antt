@@ -1,3 +1,2 @@
--- `Reading` has the laws of words and of what they say, and `Gathering` those of gathered lines.
+-- `Reading` has the laws of words and of what they say.
 pub mod Reading
-pub mod Gathering

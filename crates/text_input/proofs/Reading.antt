@@ -1,58 +1,109 @@
--- The laws by which loops over a word or a line go on and stop. Assumes nothing.
-use Prim.Native.Nat.{ℕ, suc, ◌+◌, ◌*◌, ◌≤◌, ◌<◌}
+-- The laws by which a word is found and read. Assumes nothing.
+use Prim.Native.Nat.{ℕ, suc, ◌+◌, ◌-◌, ◌%◌, ◌*◌, ◌≤◌, ◌<◌}
 use mathlib.Core.Path.{◌≡◌, refl, sym, ap, ◌∙◌}
 use mathlib.Core.Bool.{Bool, true, false, cond, ◌&&◌, false≢true}
+use mathlib.Core.Logic.{◌⊎◌, inl, inr}
 use mathlib.Core.List.{List, [], ◌∷◌, ◌++◌, append_assoc, append-nil, map}
 use native.Mathlib.Numerals.{add-one}
 use native.Mathlib.Omega.{arith}
 use lib.Dec.{eqb, ltb}
 use lib.ListN.{length, get_or, take, drop, set, length-drop, take-append-drop, drop_of_length-le}
 use lib.Seq.{length-take-le, drop-drop, drop-cons, drop-set-lt, take-suc-set}
-use borrow.Author.Tests.{eqb-true, eqb-false, ltb-true, lt-ltb, le-ltb, le-leb, lt-leb, eq-eqb, ne_eqb}
-use Rattle.text_output.specs.declared.reason.Reason.TheVariants.{NotANumber, TooLarge}
-use Rattle.text_input.specs.declared.input.Word.TheVariants.{Value, Wrong}
+use borrow.Author.Tests.{ltb-true, lt-ltb, le-ltb, le-leb, lt-leb}
+use Rattle.std.proofs.lemmas.List.Sums.{prefix_len-le-length}
+use Rattle.std.specs.Char.{is_ascii_digit, is_ascii_hexdigit}
+use Rattle.std.specs.Char as std
+use Rattle.std.specs.List.{list_all}
+use Rattle.std.specs.Prelude.{Result, Ok, Err}
+use Rattle.std.specs.Str.{bytes_eq}
+use Rattle.text_output.specs.declared.reason.Reason.{Reason}
+use Rattle.text_output.specs.declared.reason.Reason.TheVariants.{Missing, NotANumber, TooLarge}
 use Rattle.text_input.specs.declared.input.Span.{Span}
-use Rattle.text_input.specs.Reading.{blank, in_word, leading, past, word_from, digit_value, number_from, same, all_digits, hex_value, all_pairs, pair_bytes, Bytes, turned, laid, spelled_in}
+use Rattle.text_input.specs.Reading.{blank, in_word, past, word_from, digit_value, number_from, same, all_digits, hex_value, all_pairs, pair_bytes, Spelled, dash_of, or_dash, turned, laid, spelled_in}
 
 -- ---- positions past a test
 
-module _ (p : ℕ → Bool) where
-  leading_le : (xs : List ℕ) → leading p xs ≤ length xs
-  unfolding leading
-  leading_le [] = omega arith
-  leading_le (x ∷ xs) = elim (p x) as (λ b. cond b (suc (leading p xs)) 0 ≤ suc (length xs)) [ true ↦ omega (arith, leading_le xs) | false ↦ omega arith ]
+pub past_le : (p : ℕ → Bool) (xs : List ℕ) (i : ℕ) → i ≤ length xs → past p xs i ≤ length xs
+past_le p xs i h = omega (arith, prefix_len-le-length p (drop i xs), length-drop i xs)
 
-  module _ (xs : List ℕ) (i : ℕ) where
-    pub past_next : i < length xs → p (get_or xs i 0) ≡ true → past p xs i ≡ past p xs (i + 1)
-    unfolding leading
-    past_next h e =
-        let d : leading p (drop i xs) ≡ suc (leading p (drop (i + 1) xs)) = rw (drop-cons xs i 0, e, add-one) in
-        omega arith
+-- ---- what a byte is worth, against std's tests and its `to_digit`
 
-    pub past_stop : i < length xs → p (get_or xs i 0) ≡ false → past p xs i ≡ i
-    unfolding leading
-    past_stop h e = let d : leading p (drop i xs) ≡ 0 = rw (drop-cons xs i 0, e) in omega arith
+digit_tested : (b : ℕ) → ltb (digit_value b) 10 ≡ is_ascii_digit b
+unfolding digit_value
+digit_tested b = grind arith
 
-    pub past_end : length xs ≤ i → past p xs i ≡ i
-    unfolding leading
-    past_end h = let d : leading p (drop i xs) ≡ 0 = rw (drop_of_length-le xs h) in omega arith
+hex_tested : (b : ℕ) → ltb (hex_value b) 16 ≡ is_ascii_hexdigit b
+unfolding hex_value
+hex_tested b = grind arith
 
-    pub past_le : i ≤ length xs → past p xs i ≤ length xs
-    past_le h = omega (arith, leading_le (drop i xs), length-drop i xs)
+digit_read : (b : ℕ) → std.digit_value b < 10 → std.digit_value b ≡ digit_value b
+unfolding digit_value
+digit_read b h = grind arith
+
+-- the digit that `to_digit` told
+pub digit_told : (b d : ℕ) → (std.digit_value b < 10) × (d ≡ std.digit_value b) → (d ≡ digit_value b) × (d ≤ 9)
+digit_told b d v = (v.1 ∙ digit_read b v.0, omega (arith, v.0, v.1))
+
+pub digit_no : (b : ℕ) → 10 ≤ std.digit_value b → digit_value b ≡ 10
+unfolding digit_value
+digit_no b h = grind arith
+
+-- a byte that is a digit
+digit_from : (b : ℕ) → digit_value b < 10 → 48 ≤ b
+unfolding digit_value
+digit_from b h = grind arith
+
+digit_less : (b : ℕ) → digit_value b < 10 → b - 48 ≡ digit_value b
+unfolding digit_value
+digit_less b h = grind arith
+
+-- a byte that is a hexadecimal digit, by the range that holds it
+hex_low : (b : ℕ) → 48 ≤ b → b < 58 → std.digit_value b ≡ hex_value b
+unfolding hex_value
+hex_low b h l = grind arith
+
+hex_capital : (b : ℕ) → 65 ≤ b → b < 71 → std.digit_value b ≡ hex_value b
+unfolding hex_value
+hex_capital b h l = grind arith
+
+hex_small : (b : ℕ) → 97 ≤ b → b < 103 → std.digit_value b ≡ hex_value b
+unfolding hex_value
+hex_small b h l =
+    simp (
+      le-ltb b 48 (omega arith),
+      le-ltb b 58 (omega arith),
+      le-ltb b 65 (omega arith),
+      le-ltb b 71 (omega arith),
+      le-ltb b 91 (omega arith),
+      le-ltb b 97 h,
+      lt-ltb b 103 l,
+      lt-ltb b 123 (omega arith),
+      le-leb 48 b (omega arith),
+      le-leb 65 b (omega arith),
+      le-leb 97 b h,
+    )
+    (omega arith)
+
+hex_in : (b : ℕ) → hex_value b < 16 → ((48 ≤ b) × (b < 58)) ⊎ ((65 ≤ b) × (b < 71)) ⊎ ((97 ≤ b) × (b < 103))
+unfolding hex_value
+hex_in b h = grind arith
+
+pub hex_read : (b : ℕ) → hex_value b < 16 → std.digit_value b ≡ hex_value b
+hex_read b h = elim (hex_in b h) [ inl p ↦ hex_low b p.0 p.1 | inr q ↦ elim q [ inl p ↦ hex_capital b p.0 p.1 | inr p ↦ hex_small b p.0 p.1 ] ]
 
 -- ---- numbers
 
 module _ (most v : ℕ) (xs : List ℕ) (i : ℕ) where
-  pub number_end : length xs ≤ i → number_from most v (drop i xs) ≡ Value v
+  pub number_end : length xs ≤ i → number_from most v (drop i xs) ≡ Ok v
   unfolding number_from
   number_end h = rw (drop_of_length-le xs h)
 
   module _ (h : i < length xs) (d : ℕ) (e : d ≡ digit_value (get_or xs i 0)) where
-    pub number_bad : 9 < d → number_from most v (drop i xs) ≡ Wrong NotANumber
+    pub number_bad : 9 < d → number_from most v (drop i xs) ≡ Err NotANumber
     unfolding number_from
     number_bad l = rw (drop-cons xs i 0 h, ← e, le-ltb d 10 (omega arith))
 
-    pub number_large : d ≤ 9 → most < v * 10 + d → number_from most v (drop i xs) ≡ Wrong TooLarge
+    pub number_large : d ≤ 9 → most < v * 10 + d → number_from most v (drop i xs) ≡ Err TooLarge
     unfolding number_from
     number_large l m = rw (drop-cons xs i 0 h, ← e, lt-ltb d 10 (omega arith), lt-leb (v * 10 + d) most m)
 
@@ -62,63 +113,73 @@ module _ (most v : ℕ) (xs : List ℕ) (i : ℕ) where
 
 -- ---- two texts that are the same
 
-pub same-lengths : (a b : List ℕ) → (length a ≡ length b → ⊥) → same a b ≡ false
+same_is : (a b : List ℕ) → same a b ≡ bytes_eq a b
 unfolding same
-same-lengths [] [] n = absurd (n refl)
-same-lengths [] (y ∷ ys) n = refl
-same-lengths (x ∷ xs) [] n = refl
-same-lengths (x ∷ xs) (y ∷ ys) n =
-    rw (same-lengths xs ys (λ e. n (ap suc e))) (elim (eqb x y) as (λ b. (b && false) ≡ false) [ true ↦ refl | false ↦ refl ])
+same_is [] [] = refl
+same_is [] (y ∷ ys) = refl
+same_is (x ∷ xs) [] = refl
+same_is (x ∷ xs) (y ∷ ys) = ap (λ (b : Bool). eqb x y && b) (same_is xs ys)
 
-module _ (a b : List ℕ) (i : ℕ) where
-  pub same_end : length a ≤ i → length b ≤ i → same (drop i a) (drop i b) ≡ true
-  unfolding same
-  same_end h l = rw (drop_of_length-le a h, drop_of_length-le b l)
-
-  module _ (h : i < length a) (l : i < length b) where
-    pub same-other : (get_or a i 0 ≡ get_or b i 0 → ⊥) → same (drop i a) (drop i b) ≡ false
-    unfolding same
-    same-other n = rw (drop-cons a i 0 h, drop-cons b i 0 l, ne_eqb _ _ n)
-
-    pub same_next : get_or a i 0 ≡ get_or b i 0 → same (drop i a) (drop i b) ≡ same (drop (i + 1) a) (drop (i + 1) b)
-    unfolding same
-    same_next e = rw (drop-cons a i 0 h, drop-cons b i 0 l, eq-eqb _ _ e, add-one)
+-- what `==` answered
+pub same_read : (a b read : List ℕ) (r : Bool) → read ≡ b → r ≡ bytes_eq a read → same a b ≡ r
+same_read a b read r e f = same_is a b ∙ ap (bytes_eq a) (sym e) ∙ sym f
 
 -- ---- bytes
 
+-- what a word spells, from whether it is `-`
+abbrev pub dash_told : Result Bool Reason → Spelled → Spelled
+dash_told (Err r) spelled = Err r
+dash_told (Ok true) spelled = Ok []
+dash_told (Ok false) spelled = spelled
+
+pub or_dash_is : (word : List ℕ) (spelled : Spelled) → or_dash word spelled ≡ dash_told (dash_of word) spelled
+unfolding or_dash dash_of
+or_dash_is word spelled =
+    elim (eqb (length word) 0) as (λ t. cond t (Err Missing) (cond (same word (45 ∷ [])) (Ok []) spelled) ≡ dash_told (cond t (Err Missing) (Ok (same word (45 ∷ [])))) spelled) [
+      | true ↦ refl
+      | false ↦ elim (same word (45 ∷ [])) as (λ t. cond t (Ok []) spelled ≡ dash_told (Ok t) spelled) [ true ↦ refl | false ↦ refl ]
+    ]
+
 -- a word whose front holds the bytes, and behind them what it held before
 pub laid_end : (bytes word before : List ℕ) (i : ℕ) → i ≤ length word → bytes ≡ take i word → drop i word ≡ drop i before
-    → turned (Value i) word ≡ spelled_in (Bytes bytes) before
+    → turned (Ok i) word ≡ spelled_in (Ok bytes) before
 laid_end bytes word before i h e f =
     let n : i ≡ length bytes = sym (ap length e ∙ length-take-le i word h) in
     let w : word ≡ laid bytes before = sym (take-append-drop i word) ∙ λ z. sym e z ++ (f ∙ ap (λ (k : ℕ). drop k before) n) z in
-    λ z. turned (Value (n z)) (w z)
+    λ z. turned (Ok (n z)) (w z)
 
 -- what stands behind a byte that was written
 pub behind-set : (word before : List ℕ) (i d : ℕ) → drop i word ≡ drop i before → drop (i + 1) (set word i d) ≡ drop (i + 1) before
 behind-set word before i d e =
     drop-set-lt (i + 1) word i d (omega arith) ∙ sym (drop-drop 1 i word) ∙ ap (drop 1) e ∙ drop-drop 1 i before
 
--- digits, a byte each, in a word whose front holds those that were read
-module _ (xs : List ℕ) (i : ℕ) where
-  pub all_digits_end : length xs ≤ i → all_digits (drop i xs) ≡ true
-  unfolding all_digits
-  all_digits_end h = rw (drop_of_length-le xs h)
+both : (a b : Bool) → (a && b) ≡ true → (a ≡ true) × (b ≡ true)
+both true b e = (refl, e)
+both false b e = absurd (false≢true e)
 
+-- digits, a byte each, in a word whose front holds those that were read
+pub digits_are : (xs : List ℕ) → list_all is_ascii_digit xs ≡ all_digits xs
+unfolding all_digits
+digits_are [] = refl
+digits_are (b ∷ bs) = rw (digit_tested b, digits_are bs)
+
+module _ (xs : List ℕ) (i : ℕ) where
   pub digits_end : length xs ≤ i → take i xs ++ map digit_value (drop i xs) ≡ take i xs
   digits_end h = rw (drop_of_length-le xs h) (append-nil (take i xs))
 
-  module _ (h : i < length xs) (d : ℕ) (e : d ≡ digit_value (get_or xs i 0)) where
-    pub all_digits_bad : 9 < d → all_digits (drop i xs) ≡ false
+  module _ (h : i < length xs) where
+    -- the next one of digits alone
+    pub digit_here : all_digits (drop i xs) ≡ true → (48 ≤ get_or xs i 0) × (get_or xs i 0 - 48 ≡ digit_value (get_or xs i 0)) × (all_digits (drop (i + 1) xs) ≡ true)
     unfolding all_digits
-    all_digits_bad l = rw (drop-cons xs i 0 h, ← e, le-ltb d 10 (omega arith))
+    digit_here a =
+        let q : (ltb (digit_value (get_or xs i 0)) 10 && all_digits (drop (i + 1) xs)) ≡ true = sym (rw (drop-cons xs i 0 h, add-one)) ∙ a in
+        let b = both _ _ q in
+        let l : digit_value (get_or xs i 0) < 10 = ltb-true _ 10 b.0 in
+        (digit_from _ l, digit_less _ l, b.1)
 
-    pub all_digits_next : d ≤ 9 → all_digits (drop i xs) ≡ all_digits (drop (i + 1) xs)
-    unfolding all_digits
-    all_digits_next l = rw (drop-cons xs i 0 h, ← e, lt-ltb d 10 (omega arith), add-one)
-
-    pub digits_next : take i xs ++ map digit_value (drop i xs) ≡ take (i + 1) (set xs i d) ++ map digit_value (drop (i + 1) (set xs i d))
-    digits_next =
+    pub digits_next : (d : ℕ) → d ≡ digit_value (get_or xs i 0)
+        → take i xs ++ map digit_value (drop i xs) ≡ take (i + 1) (set xs i d) ++ map digit_value (drop (i + 1) (set xs i d))
+    digits_next d e =
         rw (drop-cons xs i 0 h, ← e, add-one, take-suc-set xs i d h, drop-set-lt (suc i) xs i d (omega arith))
         (sym (append_assoc (take i xs) (d ∷ []) (map digit_value (drop (suc i) xs))))
 
@@ -128,53 +189,33 @@ two xs k h =
     let l : suc k < length xs = omega arith in
     rw (drop-cons xs k 0 (omega arith), add-one k, drop-cons xs (suc k) 0 l, e)
 
-both : (a b : Bool) → (a && b) ≡ true → (a ≡ true) × (b ≡ true)
-both true b e = (refl, e)
-both false b e = absurd (false≢true e)
-
 pairs_none : (xs : List ℕ) → length xs ≤ 1 → pair_bytes xs ≡ []
 unfolding pair_bytes
 pairs_none [] h = refl
 pairs_none (x ∷ []) h = refl
 pairs_none (x ∷ y ∷ xs) h = absurd (omega arith)
 
+pub pairs_tested : (xs : List ℕ) → all_pairs xs ≡ cond (eqb (length xs % 2) 0) (list_all is_ascii_hexdigit xs) false
+unfolding all_pairs
+pairs_tested [] = refl
+pairs_tested (h ∷ []) = refl
+pairs_tested (h ∷ l ∷ bs) =
+    let e : suc (suc (length bs)) % 2 ≡ length bs % 2 = omega arith in
+    rw (e, hex_tested h, hex_tested l, pairs_tested bs)
+    (elim (eqb (length bs % 2) 0) as (λ t. (is_ascii_hexdigit h && (is_ascii_hexdigit l && cond t (list_all is_ascii_hexdigit bs) false)) ≡ cond t (is_ascii_hexdigit h && (is_ascii_hexdigit l && list_all is_ascii_hexdigit bs)) false) [
+      | true ↦ refl
+      | false ↦ grind arith
+    ])
+
 -- hexadecimal digits, two a byte, likewise
 module _ (xs : List ℕ) (i : ℕ) where
-  all_pairs_end : length xs ≤ 2 * i → all_pairs (drop (2 * i) xs) ≡ true
-  unfolding all_pairs
-  all_pairs_end h = rw (drop_of_length-le xs h)
-
-  all_pairs_odd : length xs ≡ 2 * i + 1 → all_pairs (drop (2 * i) xs) ≡ false
-  unfolding all_pairs
-  all_pairs_odd h =
-      let l : 2 * i < length xs = omega arith in
-      let m : length xs ≤ suc (2 * i) = omega arith in
-      rw (drop-cons xs (2 * i) 0 l, drop_of_length-le xs m)
-
-  -- a number that is the word's length where no digit is left, and only there
-  pub all_pairs_rest : (n : ℕ) → (n ≡ length xs → length xs ≤ 2 * i) → ((n ≡ length xs → ⊥) → length xs ≡ 2 * i + 1)
-      → eqb n (length xs) ≡ all_pairs (drop (2 * i) xs)
-  all_pairs_rest n even odd =
-      (elim (eqb n (length xs)) as (λ b. eqb n (length xs) ≡ b → b ≡ all_pairs (drop (2 * i) xs)) [
-        | true ↦ λ e. sym (all_pairs_end (even (eqb-true n (length xs) e)))
-        | false ↦ λ e. sym (all_pairs_odd (odd (eqb-false n (length xs) e)))
-      ]) refl
-
   pub pairs_end : length xs ≤ 2 * i + 1 → take i xs ++ pair_bytes (drop (2 * i) xs) ≡ take i xs
   pairs_end h =
       let l = length-drop (2 * i) xs in
       ap (λ (ys : List ℕ). take i xs ++ ys) (pairs_none (drop (2 * i) xs) (omega arith)) ∙ append-nil (take i xs)
 
   module _ (h : 2 * i + 1 < length xs) (x y : ℕ) (e : x ≡ hex_value (get_or xs (2 * i) 0)) (f : y ≡ hex_value (get_or xs (2 * i + 1) 0)) where
-    pub all_pairs_high : 15 < x → all_pairs (drop (2 * i) xs) ≡ false
-    unfolding all_pairs
-    all_pairs_high l = rw (two xs (2 * i) h, ← e, le-ltb x 16 (omega arith))
-
-    pub all_pairs_low : x ≤ 15 → 15 < y → all_pairs (drop (2 * i) xs) ≡ false
-    unfolding all_pairs
-    all_pairs_low l m = rw (two xs (2 * i) h, ← e, ← f, lt-ltb x 16 (omega arith), le-ltb y 16 (omega arith))
-
-    pub all_pairs_next : x ≤ 15 → y ≤ 15 → all_pairs (drop (2 * i) xs) ≡ all_pairs (drop (2 * (i + 1)) xs)
+    all_pairs_next : x ≤ 15 → y ≤ 15 → all_pairs (drop (2 * i) xs) ≡ all_pairs (drop (2 * (i + 1)) xs)
     unfolding all_pairs
     all_pairs_next l m =
         let k : 2 * (i + 1) ≡ 2 * i + 2 = omega arith in

@@ -1,15 +1,8 @@
 // The words of a line: numbers, hexadecimal bytes and digits.
-ghost use Rattle.std.specs.Prelude.{◌≡◌, true, map, take, drop};
-ghost use Rattle.text_input.specs.Reading.{blank, in_word, past, word_from, digit_value, hex_value, number_of, same, Bytes, all_digits, all_pairs, pair_bytes, hex_pairs, digit_bytes, or_dash, turned, spelled_in};
+ghost use Rattle.std.specs.Prelude.{◌≡◌, ◌<◌, true, Ok, map, take, drop};
+ghost use Rattle.text_input.specs.Reading.{blank, word_from, digit_value, hex_value, number_of, all_digits, all_pairs, pair_bytes, hex_pairs, digit_bytes, dash_of, or_dash, turned, spelled_in};
 
 use text_output::Reason;
-
-// What a word says: a number, or how many bytes it was turned into; or why it is not understood.
-#[derive(Clone, Copy)]
-pub enum Word {
-    Value(u64),
-    Wrong(Reason),
-}
 
 // The positions of a word: from `from` on and below `to`. None where the line has no further word.
 #[derive(Clone, Copy)]
@@ -22,50 +15,16 @@ pub struct Span {
 fn is_blank(b: u8) -> bool
     ensures { result ≡ blank b }
 {
-    if b == b' ' {
-        return true;
-    }
-    if b == b'\t' {
-        return true;
-    }
-    b == b'\r'
-}
-
-// The first position from `at` on that holds no blank, or the line's end.
-fn skip_blanks(line: &[u8], at: usize) -> usize
-    ensures { result ≡ past blank line.now at }
-{
-    let mut i = at;
-    while i < line.len() {
-        if is_blank(line[i]) {
-            i += 1;
-        } else {
-            return i;
-        }
-    }
-    i
-}
-
-// The first position from `at` on that holds a blank, or the line's end.
-fn skip_word(line: &[u8], at: usize) -> usize
-    ensures { result ≡ past in_word line.now at }
-{
-    let mut i = at;
-    while i < line.len() {
-        if is_blank(line[i]) {
-            return i;
-        }
-        i += 1;
-    }
-    i
+    matches!(b, b' ' | b'\t' | b'\r')
 }
 
 // The next word from a position on.
 pub fn next_word(line: &[u8], at: usize) -> Span
     ensures { result ≡ word_from line.now at }
 {
-    let from = skip_blanks(line, at);
-    let to = skip_word(line, from);
+    let from = at + line.iter().skip(at).take_while(|b| is_blank(**b)).count();
+    let rest = line.iter().skip(from);
+    let to = from + rest.take_while(|b| !is_blank(**b)).count();
     Span { from, to }
 }
 
@@ -73,184 +32,113 @@ pub fn next_word(line: &[u8], at: usize) -> Span
 pub fn part(line: &[u8], from: usize, count: usize) -> &[u8]
     ensures { result.now ≡ take count (drop from line.now) }
 {
-    if from <= line.len() {
-        if count <= line.len() - from {
-            return &line[from..from + count];
-        }
-        return &line[from..];
-    }
-    &line[..0]
-}
-
-// The value of a decimal digit, or 10.
-fn digit_value(b: u8) -> u8
-    ensures { result ≡ digit_value b }
-{
-    if b < b'0' {
-        return 10;
-    }
-    if b < b'0' + 10 {
-        return b - b'0';
-    }
-    10
-}
-
-// The value of a hexadecimal digit, or 16.
-fn hex_value(b: u8) -> u8
-    ensures { result ≡ hex_value b }
-{
-    if b < b'0' {
-        return 16;
-    }
-    if b < b'0' + 10 {
-        return b - b'0';
-    }
-    if b < b'A' {
-        return 16;
-    }
-    if b < b'A' + 6 {
-        return b - b'A' + 10;
-    }
-    if b < b'a' {
-        return 16;
-    }
-    if b < b'a' + 6 {
-        return b - b'a' + 10;
-    }
-    16
+    let rest = &line[from.min(line.len())..];
+    &rest[..count.min(rest.len())]
 }
 
 // A decimal number of at most `most`.
-pub fn number(word: &[u8], most: u64) -> Word
+pub fn number(word: &[u8], most: u64) -> Result<u64, Reason>
     ensures { result ≡ number_of most word.now }
 {
     if word.len() == 0 {
-        return Word::Wrong(Reason::Missing);
+        return Err(Reason::Missing);
     }
-    let mut i = 0;
     let mut value: u64 = 0;
-    while i < word.len() {
-        let digit = digit_value(word[i]) as u64;
-        if 9 < digit {
-            return Word::Wrong(Reason::NotANumber);
-        }
+    for b in word {
+        let Some(digit) = (*b as char).to_digit(10) else {
+            return Err(Reason::NotANumber);
+        };
+        let digit = u64::from(digit);
         if most / 10 < value {
-            return Word::Wrong(Reason::TooLarge);
+            return Err(Reason::TooLarge);
         }
         if most - value * 10 < digit {
-            return Word::Wrong(Reason::TooLarge);
+            return Err(Reason::TooLarge);
         }
         value = value * 10 + digit;
-        i += 1;
     }
-    Word::Value(value)
-}
-
-// Whether two texts are the same.
-pub fn same(a: &[u8], b: &[u8]) -> bool
-    ensures { result ≡ same a.now b.now }
-{
-    if a.len() != b.len() {
-        return false;
-    }
-    let mut i = 0;
-    while i < a.len() {
-        if a[i] != b[i] {
-            return false;
-        }
-        i += 1;
-    }
-    true
+    Ok(value)
 }
 
 // Whether a word is pairs of hexadecimal digits.
 fn all_pairs(word: &[u8]) -> bool
     ensures { result ≡ all_pairs word.now }
 {
-    let n = word.len() / 2;
-    let mut i = 0;
-    while i < n {
-        if 15 < hex_value(word[2 * i]) {
-            return false;
-        }
-        if 15 < hex_value(word[2 * i + 1]) {
-            return false;
-        }
-        i += 1;
-    }
-    n * 2 == word.len()
+    word.len() % 2 == 0 && word.iter().all(|b| b.is_ascii_hexdigit())
 }
 
-// Turns pairs of hexadecimal digits into the bytes that they spell, in their front.
-fn lay_pairs(word: &mut [u8]) -> Word
+// The value of a hexadecimal digit.
+fn hex_value(b: u8) -> u8
+    requires { hex_value b < 16 }
+    ensures { result ≡ hex_value b }
+{
+    (b as char).to_digit(16).unwrap() as u8
+}
+
+// Turns pairs of hexadecimal digits into the bytes that they spell, in their front, and says how many.
+fn lay_pairs(word: &mut [u8]) -> u64
     requires { all_pairs word.old ≡ true }
-    ensures { turned result word.new ≡ spelled_in (Bytes (pair_bytes word.old)) word.old }
+    ensures { turned (Ok result) word.new ≡ spelled_in (Ok (pair_bytes word.old)) word.old }
 {
     let n = word.len() / 2;
-    let mut i = 0;
-    while i < n {
+    for i in 0..n {
         let high = hex_value(word[2 * i]);
         let low = hex_value(word[2 * i + 1]);
         word[i] = high * 16 + low;
-        i += 1;
     }
-    Word::Value(n as u64)
+    n as u64
 }
 
 // Whether a word is digits.
 fn all_digits(word: &[u8]) -> bool
     ensures { result ≡ all_digits word.now }
 {
-    let mut i = 0;
-    while i < word.len() {
-        if 9 < digit_value(word[i]) {
-            return false;
-        }
-        i += 1;
-    }
-    true
+    word.iter().all(|b| b.is_ascii_digit())
 }
 
-// Turns digits into bytes of their values.
-fn lay_digits(word: &mut [u8]) -> Word
-    ensures { turned result word.new ≡ spelled_in (Bytes (map digit_value word.old)) word.old }
+// Turns digits into bytes of their values, and says how many.
+fn lay_digits(word: &mut [u8]) -> u64
+    requires { all_digits word.old ≡ true }
+    ensures { turned (Ok result) word.new ≡ spelled_in (Ok (map digit_value word.old)) word.old }
 {
-    let mut i = 0;
-    while i < word.len() {
-        word[i] = digit_value(word[i]);
-        i += 1;
+    for b in word.iter_mut() {
+        *b -= b'0';
     }
-    Word::Value(i as u64)
+    word.len() as u64
+}
+
+// Whether a word is `-`, which spells no bytes. A word that is missing is refused.
+fn is_dash(word: &[u8]) -> Result<bool, Reason>
+    ensures { result ≡ dash_of word.now }
+{
+    if word.len() == 0 {
+        return Err(Reason::Missing);
+    }
+    Ok(word == b"-".as_slice())
 }
 
 // Turns a word of hexadecimal digits, or `-`, into the bytes that it spells, in its front. A word that is refused stays as it was.
-pub fn hex(word: &mut [u8]) -> Word
+pub fn hex(word: &mut [u8]) -> Result<u64, Reason>
     ensures { turned result word.new ≡ spelled_in (or_dash word.old (hex_pairs word.old)) word.old }
 {
-    if word.len() == 0 {
-        return Word::Wrong(Reason::Missing);
+    if is_dash(word)? {
+        return Ok(0);
     }
-    if same(word, b"-") {
-        return Word::Value(0);
+    if !all_pairs(word) {
+        return Err(Reason::NotHex);
     }
-    if all_pairs(word) {
-        return lay_pairs(word);
-    }
-    Word::Wrong(Reason::NotHex)
+    Ok(lay_pairs(word))
 }
 
 // Turns a word of digits, or `-`, into bytes of their values, in its front. A word that is refused stays as it was.
-pub fn digits(word: &mut [u8]) -> Word
+pub fn digits(word: &mut [u8]) -> Result<u64, Reason>
     ensures { turned result word.new ≡ spelled_in (or_dash word.old (digit_bytes word.old)) word.old }
 {
-    if word.len() == 0 {
-        return Word::Wrong(Reason::Missing);
+    if is_dash(word)? {
+        return Ok(0);
     }
-    if same(word, b"-") {
-        return Word::Value(0);
+    if !all_digits(word) {
+        return Err(Reason::NotDigits);
     }
-    if all_digits(word) {
-        return lay_digits(word);
-    }
-    Word::Wrong(Reason::NotDigits)
+    Ok(lay_digits(word))
 }

@@ -4,5 +4,5 @@
 mod input;
 mod lines;
 
-pub use input::{Span, Word, digits, hex, next_word, number, part, same};
+pub use input::{Span, digits, hex, next_word, number, part};
 pub use lines::{Gathered, gather};

@@ -1,7 +1,8 @@
 // Lines out of chunks of input.
 ghost use Rattle.text_input.specs.Gathering.{Gathers};
 
-use text_output::put;
+use crate::input::part;
+use text_output::put_text;
 
 // Where the chunk was left, how many bytes the line has so far, and whether its end was met.
 #[derive(Clone, Copy)]
@@ -16,23 +17,11 @@ pub struct Gathered {
 pub fn gather(chunk: &[u8], from: usize, line: &mut [u8], held: usize) -> Gathered
     ensures { Gathers chunk.now from line.old held line.new result }
 {
-    let mut i = from;
-    let mut n = held;
-    while i < chunk.len() {
-        let b = chunk[i];
-        i += 1;
-        if b == b'\n' {
-            return Gathered {
-                next: i,
-                held: n,
-                ended: true,
-            };
-        }
-        n = put(line, n, b);
-    }
+    let end = from + chunk.iter().skip(from).take_while(|b| **b != b'\n').count();
+    let ended = end < chunk.len();
     Gathered {
-        next: i,
-        held: n,
-        ended: false,
+        next: if ended { end + 1 } else { end },
+        held: put_text(line, held, part(chunk, from, end - from)),
+        ended,
     }
 }

@@ -23,10 +23,8 @@ pub fn put_text(out: &mut [u8], at: usize, text: &[u8]) -> usize
     ensures { sheet out.new result ≡ puts text.now (sheet out.old at) }
 {
     let mut next = at;
-    let mut i = 0;
-    while i < text.len() {
-        next = put(out, next, text[i]);
-        i += 1;
+    for b in text {
+        next = put(out, next, *b);
     }
     next
 }
@@ -87,10 +85,8 @@ fn put_hex(out: &mut [u8], at: usize, bytes: &[u8]) -> usize
     ensures { sheet out.new result ≡ puts (hex_text bytes.now) (sheet out.old at) }
 {
     let mut next = at;
-    let mut i = 0;
-    while i < bytes.len() {
-        next = put_hex_byte(out, next, bytes[i]);
-        i += 1;
+    for b in bytes {
+        next = put_hex_byte(out, next, *b);
     }
     next
 }

@@ -1,5 +1,5 @@
 -- The laws of what is written. Assumes nothing.
-use Prim.Native.Nat.{ℕ, zero, suc, ◌+◌, ◌-◌, ◌/◌, ◌%◌, ◌≤◌, ◌<◌}
+use Prim.Native.Nat.{ℕ, zero, suc, ◌+◌, ◌/◌, ◌%◌, ◌≤◌, ◌<◌}
 use mathlib.Core.Path.{◌≡◌, refl, ap, ◌∙◌}
 use mathlib.Core.Bool.{true, false, cond}
 use mathlib.Core.List.{List}
@@ -20,11 +20,9 @@ put_same bytes x y s t p e = p ∙ ap (λ v. puts (bytes v) s) e
 -- ---- the bytes of a number
 
 module _ (left v : ℕ) (s : Sheet) where
-  pub low_more : 0 < left → puts (low_first left v) s ≡ puts (low_first (left - 1) (v / 256)) (put_byte (v % 256) s)
+  pub low_more : (less : ℕ) → left ≡ suc less → puts (low_first left v) s ≡ puts (low_first less (v / 256)) (put_byte (v % 256) s)
   unfolding low_first
-  low_more l =
-      let e : left ≡ suc (left - 1) = omega arith in
-      ap (λ (k : ℕ). puts (low_first k v) s) e ∙ puts_cons (v % 256) (low_first (left - 1) (v / 256)) s
+  low_more less e = ap (λ (k : ℕ). puts (low_first k v) s) e ∙ puts_cons (v % 256) (low_first less (v / 256)) s
 
   pub low_none : left ≤ 0 → puts (low_first left v) s ≡ s
   unfolding low_first

@@ -8,9 +8,9 @@ use native.Mathlib.Omega.{arith}
 use lib.Dec.{ltb, leb}
 use lib.ListN.{length, get_or}
 use borrow.Author.Tests.{lt-ltb, le-ltb, le-leb, lt-leb, leb-true}
+use Rattle.std.proofs.Common.{Some, None}
+use Rattle.std.proofs.lemmas.Option.{cond_some}
 use Rattle.tlv.specs.declared.elements.Element.{Element}
-use Rattle.tlv.specs.declared.elements.Parsed.{Parsed}
-use Rattle.tlv.specs.declared.elements.Parsed.TheVariants.{Whole, Malformed}
 use Rattle.tlv.specs.Elements.{kind_of, form_of, known, tag_size, width, measured, length_size, plain_size, size_of}
 use Rattle.tlv.specs.Elements.{control_at, context_tag, length_from, value_from, value_end, whole, element_from, element_at}
 
@@ -46,25 +46,6 @@ tag_le (suc (suc (suc (suc (suc (suc zero)))))) = omega arith
 tag_le (suc (suc (suc (suc (suc (suc (suc zero))))))) = omega arith
 tag_le (suc (suc (suc (suc (suc (suc (suc (suc n)))))))) = omega arith
 
--- no tag, or a context tag: as many octets as the tag control's number
-pub tag_small : (form : ℕ) → form ≤ 1 → form ≡ tag_size form
-unfolding tag_size
-tag_small zero l = refl
-tag_small (suc zero) l = refl
-tag_small (suc (suc n)) l = absurd (omega arith)
-
-pub tag-context : (form : ℕ) → form ≡ 1 → tag_size form ≡ 1
-unfolding tag_size
-tag-context form e = rw e refl
-
-pub tag_last : (form : ℕ) → form ≡ 7 → 8 ≡ tag_size form
-unfolding tag_size
-tag_last form e = rw e refl
-
-pub length-measured : (kind : ℕ) → measured kind ≡ true → length_size kind ≡ width kind
-unfolding length_size
-length-measured kind e = rw e
-
 pub length_le : (kind : ℕ) → length_size kind ≤ 8
 unfolding length_size
 length_le kind = elim (measured kind) as (λ t. cond t (width kind) 0 ≤ 8) [ true ↦ width_le kind | false ↦ omega arith ]
@@ -81,21 +62,21 @@ element_of control tag value size =
     record { kind = kind_of control; form = form_of control; tag = tag; value = value; next = value + size }
 
 module _ (b : List ℕ) (at : ℕ) where
-  pub element_outside : length b ≤ at → element_at b at ≡ Malformed
+  pub element_outside : length b ≤ at → element_at b at ≡ None
   unfolding element_at whole
   element_outside h = rw (le-ltb at (length b) h)
 
   module _ (h : at < length b) where
-    pub element_unknown : known (control_at b at) ≡ false → element_at b at ≡ Malformed
+    pub element_unknown : known (control_at b at) ≡ false → element_at b at ≡ None
     unfolding element_at whole
     element_unknown k = rw (lt-ltb at (length b) h, k)
 
     module _ (k : known (control_at b at) ≡ true) where
-      pub element_short : length b < value_end b at → element_at b at ≡ Malformed
+      pub element_short : length b < value_end b at → element_at b at ≡ None
       unfolding element_at whole
       element_short l = rw (lt-ltb at (length b) h, k, lt-leb (value_end b at) (length b) l)
 
-      pub element_whole : value_end b at ≤ length b → element_at b at ≡ Whole (element_from b at)
+      pub element_whole : value_end b at ≤ length b → element_at b at ≡ Some (element_from b at)
       unfolding element_at whole
       element_whole l = rw (lt-ltb at (length b) h, k, le-leb (value_end b at) (length b) l)
 
@@ -108,7 +89,7 @@ module _ (b : List ℕ) (at : ℕ) where
             n ≡ length_size (kind_of (control_at b at)) →
             s ≡ size_of b (kind_of (control_at b at)) (at + 1 + t) →
             at + 1 + t + n + s ≤ length b →
-            Whole (element_of (control_at b at) g (at + 1 + t + n) s) ≡ element_at b at
+            Some (element_of (control_at b at) g (at + 1 + t + n) s) ≡ element_at b at
         unfolding length_from value_from value_end
         element_made lengths size l = rw (tag, tags, lengths, size ∙ sized) (sym (element_whole (omega (arith, size ∙ sized))))
 
@@ -116,20 +97,12 @@ pub and_both : (s t : Bool) → (s && t) ≡ true → (s ≡ true) × (t ≡ tru
 and_both true t e = (refl, e)
 and_both false t e = absurd (false≢true e)
 
-abbrev in_parsed : Element → Parsed → Element
-in_parsed none (Whole h) = h
-in_parsed none Malformed = none
-
 module _ (b : List ℕ) (at : ℕ) (h : Element) where
-  element_parts : element_at b at ≡ Whole h → (whole b at ≡ true) × (element_from b at ≡ h)
+  element_parts : element_at b at ≡ Some h → (whole b at ≡ true) × (element_from b at ≡ h)
   unfolding element_at
-  element_parts =
-      elim (whole b at) as (λ t. whole b at ≡ t → cond t (Whole (element_from b at)) Malformed ≡ Whole h → (whole b at ≡ true) × (element_from b at ≡ h)) [
-        | true ↦ λ w e. (w, ap (in_parsed h) e)
-        | false ↦ λ w e. let z : ◌≡◌ {A = ℕ} 0 1 = cc in let x : ⊥ = omega arith in absurd x
-      ] refl
+  element_parts = cond_some (whole b at) (element_from b at) h
 
-  module _ (e : element_at b at ≡ Whole h) where
+  module _ (e : element_at b at ≡ Some h) where
     pub element_same : element_from b at ≡ h
     element_same = (element_parts e).1
 
@@ -161,3 +134,6 @@ module _ (b : List ℕ) (at : ℕ) (h : Element) where
         let v : value_from b at ≡ h.value = ap (λ (x : Element). x.value) element_same in
         let s : size_of b (get_or b at 0 % 32) (length_from b at) ≡ width h.kind = rw k (size_number b h.kind (length_from b at) l) in
         omega (arith, element_fits)
+
+-- what the code makes of the bytes at a position
+pub ruleset element_heads = (element_outside, element_unknown, element_made, tag_le, length_le)

@@ -7,10 +7,9 @@ use native.Mathlib.Omega.{arith}
 use lib.Dec.{eqb}
 use lib.ListN.{length}
 use borrow.Author.Tests.{eq-eqb, ne_eqb, lt-ltb, le-ltb}
+use Rattle.std.proofs.Common.{Option, Some, None}
+use Rattle.std.proofs.lemmas.Option.{none-some, same_Some}
 use Rattle.tlv.specs.declared.elements.Element.{Element}
-use Rattle.tlv.specs.declared.elements.Parsed.TheVariants.{Whole, Malformed}
-use Rattle.tlv.specs.declared.passing.Next.{Next}
-use Rattle.tlv.specs.declared.passing.Next.TheVariants.{At, Broken}
 use Rattle.tlv.specs.Elements.{opens, element_at}
 use Rattle.tlv.specs.Passing.{reading, nested, passed, passed_from}
 use Rattle.tlv.proofs.Heads.{element_outside, element_on}
@@ -19,10 +18,10 @@ use Rattle.tlv.proofs.Heads.{element_outside, element_on}
 
 module _ (b : List ℕ) where
   -- the position behind an element and up to k that follow, which stands where so many containers are open
-  abbrev behind : ℕ → ℕ → Element → Next
-  behind k level h = cond (eqb (nested h.kind level) 0) (At h.next) (passed k b (nested h.kind level) h.next)
+  abbrev behind : ℕ → ℕ → Element → Option ℕ
+  behind k level h = cond (eqb (nested h.kind level) 0) (Some h.next) (passed k b (nested h.kind level) h.next)
 
-  passed-outside : (k level at : ℕ) → length b ≤ at → passed k b level at ≡ Broken
+  passed-outside : (k level at : ℕ) → length b ≤ at → passed k b level at ≡ None
   unfolding passed
   passed-outside zero level at l = refl
   passed-outside (suc k) level at l = rw (element_outside b at l)
@@ -33,58 +32,52 @@ module _ (b : List ℕ) where
   passed_enough zero j level at p q = sym (passed-outside j level at (omega arith))
   passed_enough (suc k) zero level at p q = passed-outside (suc k) level at (omega arith)
   passed_enough (suc k) (suc j) level at p q =
-      elim (element_at b at) as (λ r. element_at b at ≡ r → reading r Broken (behind k level) ≡ reading r Broken (behind j level)) [
-        | Whole h ↦ λ e.
+      elim (element_at b at) as (λ r. element_at b at ≡ r → reading r None (behind k level) ≡ reading r None (behind j level)) [
+        | Some h ↦ λ e.
             let o = element_on b at h e in
-            ap (cond (eqb (nested h.kind level) 0) (At h.next)) (passed_enough k j (nested h.kind level) h.next (omega arith) (omega arith))
-        | Malformed ↦ λ e. refl
+            ap (cond (eqb (nested h.kind level) 0) (Some h.next)) (passed_enough k j (nested h.kind level) h.next (omega arith) (omega arith))
+        | None ↦ λ e. refl
       ] refl
 
   module _ (level at : ℕ) where
-    pub pass_broken : element_at b at ≡ Malformed → passed_from b level at ≡ Broken
+    pub pass_broken : element_at b at ≡ None → passed_from b level at ≡ None
     unfolding passed
     pass_broken e = rw e
 
     pub pass_step :
         (h : Element) →
-        element_at b at ≡ Whole h →
-        passed_from b level at ≡ cond (eqb (nested h.kind level) 0) (At h.next) (passed_from b (nested h.kind level) h.next)
+        element_at b at ≡ Some h →
+        passed_from b level at ≡ cond (eqb (nested h.kind level) 0) (Some h.next) (passed_from b (nested h.kind level) h.next)
     unfolding passed
     pass_step h e =
         let o = element_on b at h e in
         let l = nested h.kind level in
-        rw e (ap (cond (eqb l 0) (At h.next)) (passed_enough (length b) (suc (length b)) l h.next (omega arith) (omega arith)))
+        rw e (ap (cond (eqb l 0) (Some h.next)) (passed_enough (length b) (suc (length b)) l h.next (omega arith) (omega arith)))
 
-    module _ (h : Element) (e : element_at b at ≡ Whole h) (l : ℕ) (n : l ≡ nested h.kind level) where
-      pub pass_ends : l ≡ 0 → passed_from b level at ≡ At h.next
+    module _ (h : Element) (e : element_at b at ≡ Some h) (l : ℕ) (n : l ≡ nested h.kind level) where
+      pub pass_ends : l ≡ 0 → passed_from b level at ≡ Some h.next
       pass_ends z = pass_step h e ∙ rw (← n, eq-eqb l 0 z)
 
       pub pass_goes : (l ≡ 0 → ⊥) → passed_from b level at ≡ passed_from b l h.next
       pass_goes z = pass_step h e ∙ rw (← n, ne_eqb l 0 z)
 
-pub at_same : (m n : ℕ) → At m ≡ At n → m ≡ n
-at_same m n e = cc
-
-pub nowhere : {A : Type 0} (n : ℕ) → Broken ≡ At n → A
-nowhere n e = let z : ◌≡◌ {A = ℕ} 0 1 = cc in let x : ⊥ = omega arith in absurd x
-
 -- what is passed leads on
-abbrev pub Leads : (ℕ → Next) → Type 0
-Leads pass = (at n : ℕ) → pass at ≡ At n → at < n
+abbrev pub Leads : (ℕ → Option ℕ) → Type 0
+Leads pass = (at n : ℕ) → pass at ≡ Some n → at < n
 
 pub passed_leads : (b : List ℕ) (k level : ℕ) → Leads (passed k b level)
 unfolding passed
-passed_leads b zero level at n = λ f. nowhere n f
+passed_leads b zero level at n = λ f. absurd (none-some n f)
 passed_leads b (suc k) level at n =
-    elim (element_at b at) as (λ r. element_at b at ≡ r → reading r Broken (behind b k level) ≡ At n → at < n) [
-      | Whole h ↦ λ e.
+    elim (element_at b at) as (λ r. element_at b at ≡ r → reading r None (behind b k level) ≡ Some n → at < n) [
+      | Some h ↦ λ e.
           let o = element_on b at h e in
           let l = nested h.kind level in
-          elim (eqb l 0) as (λ t. cond t (At h.next) (passed k b l h.next) ≡ At n → at < n) [
-            | true ↦ λ f. omega (arith, at_same h.next n f)
+          elim (eqb l 0) as (λ t. cond t (Some h.next) (passed k b l h.next) ≡ Some n → at < n) [
+            | true ↦ λ f. omega (arith, same_Some h.next n f)
             | false ↦ λ f. omega (arith, passed_leads b k l h.next n f)
           ]
-      | Malformed ↦ λ e f. nowhere n f
+      | None ↦ λ e f. absurd (none-some n f)
     ] refl
 
 pub nested_le : (kind level : ℕ) → nested kind level ≤ level + 1
@@ -116,8 +109,11 @@ nested-plain kind level o z = rw (o, ne_eqb kind 24 z)
 
 module _ (b : List ℕ) where
   -- behind an element that leaves so many containers open
-  abbrev pub onward : ℕ → ℕ → Next
-  onward level n = cond (eqb level 0) (At n) (passed_from b level n)
+  abbrev pub onward : ℕ → ℕ → Option ℕ
+  onward level n = cond (eqb level 0) (Some n) (passed_from b level n)
 
-  pub onto : (level at l : ℕ) (h : Element) → element_at b at ≡ Whole h → nested h.kind level ≡ l → passed_from b level at ≡ onward l h.next
+  pub onto : (level at l : ℕ) (h : Element) → element_at b at ≡ Some h → nested h.kind level ≡ l → passed_from b level at ≡ onward l h.next
   onto level at l h e q = pass_step b level at h e ∙ ap (λ (k : ℕ). onward k h.next) q
+
+-- one element more is passed over
+pub ruleset passes = (element_on, nested_le, pass_broken, pass_ends, pass_goes)

@@ -9,17 +9,13 @@ use lib.Dec.{eqb, ltb, eqb-suc-zero}
 use lib.ListN.{length, get_or, length-append, get_or-append}
 use lib.Seq.{get_or-append-add}
 use borrow.Author.Tests.{lt-ltb, le-ltb, le-leb, eq-eqb, ne_eqb, ltb-true}
+use Rattle.std.proofs.Common.{Some, None}
 use Rattle.tlv.specs.declared.elements.Element.{Element}
-use Rattle.tlv.specs.declared.elements.Parsed.TheVariants.{Whole}
-use Rattle.tlv.specs.declared.passing.Next.TheVariants.{At}
 use Rattle.tlv.specs.declared.members.Step.TheVariants.{Member}
-use Rattle.tlv.specs.declared.values.Number.TheVariants.{Value}
 use Rattle.tlv.specs.Elements.{known, opens, tag_size, width, measured, length_size, plain_size, little, size_of, context_tag, length_from}
 use Rattle.tlv.specs.Elements.{value_from, value_end, element_at}
 use Rattle.tlv.specs.Passing.{passed_from}
-use Rattle.tlv.specs.declared.values.Boolean.TheVariants.{Is, NoBoolean}
-use Rattle.tlv.specs.declared.values.Octets.TheVariants.{Span}
-use Rattle.tlv.specs.Values.{unsigned, number_at, bool_at, octets, octets_at, inside_at}
+use Rattle.tlv.specs.Values.{unsigned, number_at, bool_at, octets, span, octets_at, inside_at}
 use Rattle.tlv.specs.Members.{member_at}
 use Rattle.tlv.specs.Encoding.{low_first, smallest, context, number_bytes, octets_bytes, bool_bytes, number_size, octets_size, Holds}
 use Rattle.tlv.proofs.Heads.{size_number, element_whole}
@@ -97,10 +93,10 @@ module _ (b : List ℕ) (at tag kind : ℕ) (c : get_or b at 0 ≡ 32 + kind) (t
     abbrev context_element : Element
     context_element = record { kind = kind; form = 1; tag = tag; value = from; next = next }
 
-    pub element_context : element_at b at ≡ Whole context_element
+    pub element_context : element_at b at ≡ Some context_element
     element_context =
         element_whole b at (omega arith) is_known (omega (arith, value_end_lem))
-        ∙ (λ i. Whole (record { kind = kind_of_lem i; form = form_of i; tag = tag_of i; value = value-from i; next = value_end_lem i }))
+        ∙ (λ i. Some (record { kind = kind_of_lem i; form = form_of i; tag = tag_of i; value = value-from i; next = value_end_lem i }))
 
     pub member-context : kind < 21 → member_at b at ≡ Member context_element next
     unfolding opens
@@ -173,7 +169,7 @@ module _ (b : List ℕ) (at tag v : ℕ) (h : Holds b at (number_bytes tag v)) w
   low : Holds b (at + 1 + 1) (low_first (width (smallest v)) v)
   low = holds_rest b (at + 1) tag (low_first (width (smallest v)) v) rest
 
-  pub number_element_lem : element_at b at ≡ Whole number_element
+  pub number_element_lem : element_at b at ≡ Some number_element
   number_element_lem =
       element_context b at tag (smallest v) first (holds_first b (at + 1) tag (low_first (width (smallest v)) v) rest) (omega (arith, smallest_le v))
       (at + 2) (at + number_size v) (omega (arith, plain-length)) (omega (arith, plain_size_lem (at + 2))) (omega (arith, h.room, number-length tag v))
@@ -190,13 +186,13 @@ module _ (b : List ℕ) (at tag v : ℕ) (h : Holds b at (number_bytes tag v)) w
       (at + 2) (at + number_size v) (omega (arith, plain-length)) (omega (arith, plain_size_lem (at + 2))) (omega (arith, h.room, number-length tag v))
       (omega (arith, smallest_le v))
 
-  pub number-held : (most : ℕ) → smallest v ≤ most → v < 18446744073709551616 → number_at most b at ≡ Value v
+  pub number-held : (most : ℕ) → smallest v ≤ most → v < 18446744073709551616 → number_at most b at ≡ Some v
   unfolding number_at unsigned
   number-held most l m =
       let e : at + 1 + 1 ≡ at + 2 = omega arith in
       let s = smallest_le v in
       rw (number_element_lem, lt-ltb 3 (smallest v) s.0, le-leb (smallest v) most l, lt-ltb (smallest v) 8 s.1)
-      (ap Value (ap (little (width (smallest v)) b) (sym e) ∙ little-held b (width (smallest v)) v (at + 1 + 1) low (smallest-fits v m)))
+      (ap Some (ap (little (width (smallest v)) b) (sym e) ∙ little-held b (width (smallest v)) v (at + 1 + 1) low (smallest-fits v m)))
 
 -- ---- a boolean under a context tag
 
@@ -224,7 +220,7 @@ module _ (b : List ℕ) (at tag : ℕ) (flag : Bool) (h : Holds b at (bool_bytes
   abbrev pub bool_element : Element
   bool_element = record { kind = cond flag 9 8; form = 1; tag = tag; value = at + 2; next = at + 2 }
 
-  bool_element_lem : element_at b at ≡ Whole bool_element
+  bool_element_lem : element_at b at ≡ Some bool_element
   bool_element_lem =
       element_context b at tag (cond flag 9 8) flag_first flag-tag (omega (arith, flag_small flag))
       (at + 2) (at + 2) (omega (arith, flag-length flag)) (omega (arith, flag-size flag)) h.room
@@ -239,11 +235,11 @@ module _ (b : List ℕ) (at tag : ℕ) (flag : Bool) (h : Holds b at (bool_bytes
       context_through b at tag (cond flag 9 8) flag_first flag-tag (omega (arith, flag_small flag))
       (at + 2) (at + 2) (omega (arith, flag-length flag)) (omega (arith, flag-size flag)) h.room (flag_small flag)
 
-  flag-says : (f : Bool) → cond (eqb (cond f 9 8) 8) (Is false) (cond (eqb (cond f 9 8) 9) (Is true) NoBoolean) ≡ Is f
+  flag-says : (f : Bool) → cond (eqb (cond f 9 8) 8) (Some false) (cond (eqb (cond f 9 8) 9) (Some true) None) ≡ Some f
   flag-says true = refl
   flag-says false = refl
 
-  pub bool_held : bool_at b at ≡ Is flag
+  pub bool_held : bool_at b at ≡ Some flag
   unfolding bool_at
   bool_held = rw bool_element_lem (flag-says flag)
 
@@ -294,7 +290,7 @@ module _ (b : List ℕ) (at tag : ℕ) (xs : List ℕ) (h : Holds b at (octets_b
   abbrev pub octets_element : Element
   octets_element = record { kind = octets_kind; form = 1; tag = tag; value = octets_from; next = at + octets_size (length xs) }
 
-  octets_element_lem : element_at b at ≡ Whole octets_element
+  octets_element_lem : element_at b at ≡ Some octets_element
   octets_element_lem =
       element_context b at tag octets_kind octets_first octets-tag (omega (arith, smallest_le (length xs)))
       octets_from (at + octets_size (length xs)) (omega (arith, octets-length-size)) (omega (arith, octets-size)) (omega (arith, h.room, octets-length tag xs))
@@ -311,7 +307,7 @@ module _ (b : List ℕ) (at tag : ℕ) (xs : List ℕ) (h : Holds b at (octets_b
       octets_from (at + octets_size (length xs)) (omega (arith, octets-length-size)) (omega (arith, octets-size)) (omega (arith, h.room, octets-length tag xs))
       (omega (arith, smallest_le (length xs)))
 
-  pub octets-held : octets_at b at ≡ Span octets_from (at + octets_size (length xs))
+  pub octets-held : octets_at b at ≡ Some (span octets_from (at + octets_size (length xs)))
   unfolding octets_at octets
   octets-held =
       let s = smallest_le (length xs) in
@@ -341,13 +337,13 @@ module _ (b : List ℕ) (at tag kind : ℕ) (h : Holds b at (context tag kind)) 
         ne_eqb kind 11 (λ e. omega arith),
       )
 
-  pub tagged_element : element_at b at ≡ Whole (record { kind = kind; form = 1; tag = tag; value = at + 2; next = at + 2 })
+  pub tagged_element : element_at b at ≡ Some (record { kind = kind; form = 1; tag = tag; value = at + 2; next = at + 2 })
   tagged_element =
       let rest = holds_rest b at (32 + kind) (tag ∷ []) h in
       element_context b at tag kind (holds_first b at (32 + kind) (tag ∷ []) h) (holds_first b (at + 1) tag [] rest) k
       (at + 2) (at + 2) (omega (arith, tagged-length)) (omega (arith, tagged-size)) h.room
 
-  pub tagged_inside : inside_at kind b at ≡ At (at + 2)
+  pub tagged_inside : inside_at kind b at ≡ Some (at + 2)
   unfolding inside_at
   tagged_inside = rw (tagged_element, eq-eqb kind kind refl)
 
@@ -398,12 +394,12 @@ module _ (b : List ℕ) (at kind : ℕ) (c : get_or b at 0 ≡ kind) (o : 20 < k
   abbrev pub open_element : Element
   open_element = record { kind = kind; form = 0; tag = 0; value = at + 1; next = at + 1 }
 
-  pub open_element_lem : element_at b at ≡ Whole open_element
+  pub open_element_lem : element_at b at ≡ Some open_element
   open_element_lem =
       element_whole b at l open_known (omega (arith, open_end))
-      ∙ (λ i. Whole (record { kind = open_kind i; form = open_form i; tag = open_tag i; value = open_value i; next = open_end i }))
+      ∙ (λ i. Some (record { kind = open_kind i; form = open_form i; tag = open_tag i; value = open_value i; next = open_end i }))
 
-  pub open_inside : inside_at kind b at ≡ At (at + 1)
+  pub open_inside : inside_at kind b at ≡ Some (at + 1)
   unfolding inside_at
   open_inside = rw (open_element_lem, eq-eqb kind kind refl)
 
@@ -445,10 +441,10 @@ module _ (b : List ℕ) (at : ℕ) (c : get_or b at 0 ≡ 24) (l : at < length b
   abbrev end_element : Element
   end_element = record { kind = 24; form = 0; tag = 0; value = at + 1; next = at + 1 }
 
-  pub end_element_lem : element_at b at ≡ Whole end_element
+  pub end_element_lem : element_at b at ≡ Some end_element
   end_element_lem =
       element_whole b at l end_known (omega (arith, end_behind))
-      ∙ (λ i. Whole (record { kind = end_kind i; form = end_form i; tag = end_tag i; value = end_value i; next = end_behind i }))
+      ∙ (λ i. Some (record { kind = end_kind i; form = end_form i; tag = end_tag i; value = end_value i; next = end_behind i }))
 
   pub end_through : (level : ℕ) → passed_from b (suc level) at ≡ onward b level (at + 1)
   end_through level = onto b (suc level) at level end_element end_element_lem (nested_end 24 (suc level) refl ∙ omega arith)

@@ -7,58 +7,40 @@ use native.Mathlib.Omega.{arith}
 use lib.Dec.{eqb, leb}
 use lib.ListN.{length}
 use borrow.Author.Tests.{eq-eqb, ne_eqb, le-leb, lt-leb, leb-false}
+use Rattle.std.proofs.Common.{Some, None}
 use Rattle.tlv.specs.declared.elements.Element.{Element}
-use Rattle.tlv.specs.declared.elements.Parsed.TheVariants.{Whole, Malformed}
-use Rattle.tlv.specs.declared.passing.Next.TheVariants.{At, Broken}
 use Rattle.tlv.specs.declared.members.Step.{Step}
 use Rattle.tlv.specs.declared.members.Step.TheVariants.{Member, End, Damaged}
 use Rattle.tlv.specs.Elements.{opens, element_at}
-use Rattle.tlv.specs.Passing.{reading, going, passed_at}
+use Rattle.tlv.specs.Passing.{reading, passed_at}
 use Rattle.tlv.specs.Members.{Search, Found, Missing, Spoiled, member_at, stepping, tagged, found, found_from}
 use Rattle.tlv.proofs.Passes.{pass_ends, passed_leads, nested-plain}
 
 -- ---- the member at a position
 
-no_end : {A : Type 0} (h : Element) (n : ℕ) → End ≡ Member h n → A
-no_end h n e = let z : ◌≡◌ {A = ℕ} 0 1 = cc in let x : ⊥ = omega arith in absurd x
-
-no_damage : {A : Type 0} (h : Element) (n : ℕ) → Damaged ≡ Member h n → A
-no_damage h n e = let z : ◌≡◌ {A = ℕ} 0 1 = cc in let x : ⊥ = omega arith in absurd x
-
-member-same : (g h : Element) (m n : ℕ) → Member g m ≡ Member h n → m ≡ n
-member-same g h m n e = cc
-
 module _ (b : List ℕ) (at : ℕ) where
   -- what is made of the element there as a member
   abbrev member_of : Element → Step
-  member_of h = cond (eqb h.kind 24) End (going (passed_at b at) Damaged λ next. Member h next)
+  member_of h = cond (eqb h.kind 24) End (reading (passed_at b at) Damaged λ next. Member h next)
 
   pub member-outside : length b ≤ at → member_at b at ≡ End
   unfolding member_at
   member-outside l = rw (le-leb (length b) at l)
 
   module _ (l : at < length b) where
-    pub member_broken : element_at b at ≡ Malformed → member_at b at ≡ Damaged
-    unfolding member_at
-    member_broken e = rw (lt-leb (length b) at l, e)
-
-    module _ (h : Element) (e : element_at b at ≡ Whole h) where
+    module _ (h : Element) (e : element_at b at ≡ Some h) where
       pub member-ends : h.kind ≡ 24 → member_at b at ≡ End
       unfolding member_at
       member-ends z = rw (lt-leb (length b) at l, e, eq-eqb h.kind 24 z)
 
       module _ (z : h.kind ≡ 24 → ⊥) where
-        pub member_fails : passed_at b at ≡ Broken → member_at b at ≡ Damaged
-        unfolding member_at
-        member_fails f = rw (lt-leb (length b) at l, e, ne_eqb h.kind 24 z, f)
-
-        pub member_goes : (n : ℕ) → passed_at b at ≡ At n → member_at b at ≡ Member h n
+        pub member_goes : (n : ℕ) → passed_at b at ≡ Some n → member_at b at ≡ Member h n
         unfolding member_at
         member_goes n f = rw (lt-leb (length b) at l, e, ne_eqb h.kind 24 z, f)
 
         -- what is no container is passed by its own bytes
-        pub member-plain : opens h.kind ≡ false → member_at b at ≡ Member h h.next
-        member-plain o = member_goes h.next (pass_ends b 0 at h e 0 (sym (nested-plain h.kind 0 o z)) refl)
+        pub member_plain : opens h.kind ≡ false → member_at b at ≡ Member h h.next
+        member_plain o = member_goes h.next (pass_ends b 0 at h e 0 (sym (nested-plain h.kind 0 o z)) refl)
 
   -- a member stands within the bytes, and what is behind it further on
   pub member_on : (h : Element) (n : ℕ) → member_at b at ≡ Member h n → (at < n) × (at < length b)
@@ -66,19 +48,19 @@ module _ (b : List ℕ) (at : ℕ) where
   member_on h n =
       elim (leb (length b) at) as
       (λ t. leb (length b) at ≡ t → cond t End (reading (element_at b at) Damaged member_of) ≡ Member h n → (at < n) × (at < length b)) [
-        | true ↦ λ o e. no_end h n e
+        | true ↦ λ o e. cc
         | false ↦ λ o.
             elim (element_at b at) as (λ r. reading r Damaged member_of ≡ Member h n → (at < n) × (at < length b)) [
-              | Whole g ↦
-                  elim (eqb g.kind 24) as (λ t. cond t End (going (passed_at b at) Damaged (λ next. Member g next)) ≡ Member h n → (at < n) × (at < length b)) [
-                    | true ↦ λ e. no_end h n e
+              | Some g ↦
+                  elim (eqb g.kind 24) as (λ t. cond t End (reading (passed_at b at) Damaged (λ next. Member g next)) ≡ Member h n → (at < n) × (at < length b)) [
+                    | true ↦ λ e. cc
                     | false ↦
-                        elim (passed_at b at) as (λ q. passed_at b at ≡ q → going q Damaged (λ next. Member g next) ≡ Member h n → (at < n) × (at < length b)) [
-                          | At m ↦ λ p e. (omega (arith, member-same g h m n e, passed_leads b (suc (length b)) 0 at m p), leb-false (length b) at o)
-                          | Broken ↦ λ p e. no_damage h n e
+                        elim (passed_at b at) as (λ q. passed_at b at ≡ q → reading q Damaged (λ next. Member g next) ≡ Member h n → (at < n) × (at < length b)) [
+                          | Some m ↦ λ p e. let same : m ≡ n = cc in (omega (arith, passed_leads b (suc (length b)) 0 at m p), leb-false (length b) at o)
+                          | None ↦ λ p e. cc
                         ] refl
                   ]
-              | Malformed ↦ λ e. no_damage h n e
+              | None ↦ λ e. cc
             ]
       ] refl
 

@@ -5,10 +5,8 @@
 -- Where read.rs and the appendix part, this follows read.rs. The types 25 to 31, which the appendix reserves, are refused, and so is
 -- an end of a container with a tag, wherever it stands. Laxer: the octets of text need not be UTF-8, a tag may be of any kind in any
 -- container, and the octets of a float are not looked at. A container's element is its head alone; `Passing` and `Members` have the rest.
-use Rattle.std.specs.Prelude.{ℕ, zero, suc, ◌+◌, ◌*◌, ◌/◌, ◌%◌, Bool, cond, ◌&&◌, ◌||◌, List, [], ◌∷◌, eqb, ltb, leb, length, get_or}
+use Rattle.std.specs.Prelude.{ℕ, zero, suc, ◌+◌, ◌*◌, ◌/◌, ◌%◌, Bool, cond, ◌&&◌, ◌||◌, List, [], ◌∷◌, eqb, ltb, leb, length, get_or, Option, Some, None}
 use Rattle.tlv.specs.declared.elements.Element.{Element}
-use Rattle.tlv.specs.declared.elements.Parsed.{Parsed}
-use Rattle.tlv.specs.declared.elements.Parsed.TheVariants.{Whole, Malformed}
 use Rattle.tlv.specs.Types.{type_count, width_count, false_type, f32_type, f64_type, null_type, end_type, context_tagged}
 
 -- ---- the control octet
@@ -95,5 +93,5 @@ module _ (bytes : List ℕ) (at : ℕ) where
     next = value_end;
   }
 
-  unfoldable pub element_at : Parsed
-  element_at = cond whole (Whole element_from) Malformed
+  unfoldable pub element_at : Option Element
+  element_at = cond whole (Some element_from) None

@@ -8,13 +8,13 @@ use Rattle.tlv.specs.declared.members.Step.{Step}
 use Rattle.tlv.specs.declared.members.Step.TheVariants.{Member, End, Damaged}
 use Rattle.tlv.specs.Types.{end_type, context_tagged}
 use Rattle.tlv.specs.Elements.{element_at}
-use Rattle.tlv.specs.Passing.{reading, going, passed_at}
+use Rattle.tlv.specs.Passing.{reading, passed_at}
 
 -- the member at a position and what stands behind all of it, or the end, or nothing that can be read
 unfoldable pub member_at : List ℕ → ℕ → Step
 member_at bytes at =
     cond (leb (length bytes) at) End
-    (reading (element_at bytes at) Damaged λ h. cond (eqb h.kind end_type) End (going (passed_at bytes at) Damaged λ next. Member h next))
+    (reading (element_at bytes at) Damaged λ h. cond (eqb h.kind end_type) End (reading (passed_at bytes at) Damaged λ next. Member h next))
 
 -- goes on with a member, or at the end, or without either
 abbrev pub stepping : {A : Type 0} → Step → A → A → (Element → ℕ → A) → A

@@ -2,15 +2,8 @@
 -- and containers. As `u8`, `u16`, `u32`, `u64`, `bool`, `str`, `structure`, `array` and `list` of read.rs take it: a number may be written in
 -- any width up to the one that is asked for; signed numbers are not unsigned ones; text is no octet string. None of them looks at the tag.
 -- Only a whole element says anything: `bool` of read.rs does not see that a tag is cut off, but a member that was found is whole.
-use Rattle.std.specs.Prelude.{ℕ, Bool, cond, true, false, ◌&&◌, List, eqb, ltb, leb}
-use Rattle.tlv.specs.declared.passing.Next.{Next}
-use Rattle.tlv.specs.declared.passing.Next.TheVariants.{At, Broken}
-use Rattle.tlv.specs.declared.values.Number.{Number}
-use Rattle.tlv.specs.declared.values.Number.TheVariants.{Value, NoNumber}
-use Rattle.tlv.specs.declared.values.Boolean.{Boolean}
-use Rattle.tlv.specs.declared.values.Boolean.TheVariants.{Is, NoBoolean}
-use Rattle.tlv.specs.declared.values.Octets.{Octets}
-use Rattle.tlv.specs.declared.values.Octets.TheVariants.{Span, NoOctets}
+use Rattle.std.specs.Prelude.{ℕ, Bool, cond, true, false, ◌&&◌, List, eqb, ltb, leb, Option, Some, None}
+use Rattle.tlv.specs.declared.values.Span.{Span}
 use Rattle.tlv.specs.Types.{s64_type, false_type, true_type, utf64l_type, null_type}
 use Rattle.tlv.specs.Elements.{width, little, element_at}
 use Rattle.tlv.specs.Passing.{reading}
@@ -20,28 +13,27 @@ unfoldable pub unsigned : ℕ → ℕ → Bool
 unsigned most kind = ltb s64_type kind && (leb kind most && ltb kind false_type)
 
 -- an unsigned number
-unfoldable pub number_at : ℕ → List ℕ → ℕ → Number
+unfoldable pub number_at : ℕ → List ℕ → ℕ → Option ℕ
 number_at most bytes at =
-    reading (element_at bytes at) NoNumber λ h. cond (unsigned most h.kind) (Value (little (width h.kind) bytes h.value)) NoNumber
-
--- goes on with a number, or without
-abbrev pub counting : {A : Type 0} → Number → A → (ℕ → A) → A
-counting (Value v) none go = go v
-counting NoNumber none go = none
+    reading (element_at bytes at) None λ h. cond (unsigned most h.kind) (Some (little (width h.kind) bytes h.value)) None
 
 -- a boolean
-unfoldable pub bool_at : List ℕ → ℕ → Boolean
+unfoldable pub bool_at : List ℕ → ℕ → Option Bool
 bool_at bytes at =
-    reading (element_at bytes at) NoBoolean λ h. cond (eqb h.kind false_type) (Is false) (cond (eqb h.kind true_type) (Is true) NoBoolean)
+    reading (element_at bytes at) None λ h. cond (eqb h.kind false_type) (Some false) (cond (eqb h.kind true_type) (Some true) None)
 
 -- the types of octet strings, between text and null
 unfoldable pub octets : ℕ → Bool
 octets kind = ltb utf64l_type kind && ltb kind null_type
 
--- the positions of an octet string
-unfoldable pub octets_at : List ℕ → ℕ → Octets
-octets_at bytes at = reading (element_at bytes at) NoOctets λ h. cond (octets h.kind) (Span h.value h.next) NoOctets
+-- the positions from one on and below another
+abbrev pub span : ℕ → ℕ → Span
+span from to = record { from = from; to = to }
+
+-- where an octet string stands
+unfoldable pub octets_at : List ℕ → ℕ → Option Span
+octets_at bytes at = reading (element_at bytes at) None λ h. cond (octets h.kind) (Some (span h.value h.next)) None
 
 -- the position of the first member of a container of a type: a structure, an array or a list
-unfoldable pub inside_at : ℕ → List ℕ → ℕ → Next
-inside_at kind bytes at = reading (element_at bytes at) Broken λ h. cond (eqb h.kind kind) (At h.next) Broken
+unfoldable pub inside_at : ℕ → List ℕ → ℕ → Option ℕ
+inside_at kind bytes at = reading (element_at bytes at) None λ h. cond (eqb h.kind kind) (Some h.next) None

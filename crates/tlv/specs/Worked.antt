@@ -1,16 +1,9 @@
 -- What the definitions are to make of given bytes: document 02, Q-1; the worked encodings of the TLV appendix of the Matter Core Specification,
 -- as one table, with bytes that are refused. A row has the elements in the bytes in order, ends of containers among them, up to the first
 -- that cannot be read; and the position behind all of the first one, as it is passed over.
-use Rattle.std.specs.Prelude.{ℕ, zero, suc, ◌-◌, Bool, true, false, cond, List, [], ◌∷◌, ◌++◌, map, leb, length, take, drop}
+use Rattle.std.specs.Prelude.{ℕ, zero, suc, ◌-◌, Bool, true, false, cond, List, [], ◌∷◌, ◌++◌, map, leb, length, take, drop, Option, Some, None}
 use Rattle.tlv.specs.declared.elements.Element.{Element}
-use Rattle.tlv.specs.declared.passing.Next.{Next}
-use Rattle.tlv.specs.declared.passing.Next.TheVariants.{At, Broken}
-use Rattle.tlv.specs.declared.values.Number.{Number}
-use Rattle.tlv.specs.declared.values.Number.TheVariants.{Value, NoNumber}
-use Rattle.tlv.specs.declared.values.Boolean.{Boolean}
-use Rattle.tlv.specs.declared.values.Boolean.TheVariants.{Is, NoBoolean}
-use Rattle.tlv.specs.declared.values.Octets.{Octets}
-use Rattle.tlv.specs.declared.values.Octets.TheVariants.{Span, NoOctets}
+use Rattle.tlv.specs.declared.values.Span.{Span}
 use Rattle.tlv.specs.Types.{s8_type, s16_type, s32_type, s64_type, u8_type, u16_type, u32_type, u64_type, false_type, true_type, f32_type, f64_type}
 use Rattle.tlv.specs.Types.{utf8l_type, str8l_type, str16l_type, null_type, struct_type, array_type, list_type, end_type}
 use Rattle.tlv.specs.Types.{anonymous, context_tagged, common_tagged16, common_tagged32, implicit_tagged16, implicit_tagged32}
@@ -36,18 +29,18 @@ pub data Seen : Type 0 where
 pub record Row : Type 0 where
   pub bytes : List ℕ
   pub elements : List Seen
-  pub behind : Next
+  pub behind : Option ℕ
 
-abbrev pub row : List ℕ → List Seen → Next → Row
+abbrev pub row : List ℕ → List Seen → Option ℕ → Row
 row bytes elements behind = record { bytes = bytes; elements = elements; behind = behind }
 
 -- ---- what the definitions make of bytes
 
-abbrev pub said_by : List ℕ → Number → Boolean → Octets → Said
-said_by bytes (Value v) b o = number v
-said_by bytes NoNumber (Is b) o = flag b
-said_by bytes NoNumber NoBoolean (Span from to) = octets (take (to - from) (drop from bytes))
-said_by bytes NoNumber NoBoolean NoOctets = nothing
+abbrev pub said_by : List ℕ → Option ℕ → Option Bool → Option Span → Said
+said_by bytes (Some v) b o = number v
+said_by bytes None (Some b) o = flag b
+said_by bytes None None (Some s) = octets (take (s.to - s.from) (drop s.from bytes))
+said_by bytes None None None = nothing
 
 abbrev pub said_at : List ℕ → ℕ → Said
 said_at bytes at = said_by bytes (number_at u64_type bytes at) (bool_at bytes at) (octets_at bytes at)
@@ -82,42 +75,42 @@ signed_to next = it s8_type anonymous 0 (next - 1) 1 next nothing
 -- false, true and null
 abbrev pub constants : List Row
 constants =
-    row (0x08 ∷ []) (it false_type anonymous 0 1 0 1 (flag false) ∷ []) (At 1)
-    ∷ row (0x09 ∷ []) (it true_type anonymous 0 1 0 1 (flag true) ∷ []) (At 1)
-    ∷ row (0x14 ∷ []) (it null_type anonymous 0 1 0 1 nothing ∷ []) (At 1)
+    row (0x08 ∷ []) (it false_type anonymous 0 1 0 1 (flag false) ∷ []) (Some 1)
+    ∷ row (0x09 ∷ []) (it true_type anonymous 0 1 0 1 (flag true) ∷ []) (Some 1)
+    ∷ row (0x14 ∷ []) (it null_type anonymous 0 1 0 1 nothing ∷ []) (Some 1)
     ∷ []
 
 -- 42 and -17 signed; 42 unsigned; 42 in two octets, -170000 in four, 40000000000 in eight, all signed; floats 0.0 and 17.9
 abbrev pub numbers : List Row
 numbers =
-    row (0x00 ∷ 0x2A ∷ []) (it s8_type anonymous 0 1 1 2 nothing ∷ []) (At 2)
-    ∷ row (0x00 ∷ 0xEF ∷ []) (it s8_type anonymous 0 1 1 2 nothing ∷ []) (At 2)
-    ∷ row (0x04 ∷ 0x2A ∷ []) (it u8_type anonymous 0 1 1 2 (number 42) ∷ []) (At 2)
-    ∷ row (0x01 ∷ 0x2A ∷ 0x00 ∷ []) (it s16_type anonymous 0 1 2 3 nothing ∷ []) (At 3)
-    ∷ row (0x02 ∷ 0xF0 ∷ 0x67 ∷ 0xFD ∷ 0xFF ∷ []) (it s32_type anonymous 0 1 4 5 nothing ∷ []) (At 5)
-    ∷ row (0x03 ∷ 0x00 ∷ 0x90 ∷ 0x2F ∷ 0x50 ∷ 0x09 ∷ 0x00 ∷ 0x00 ∷ 0x00 ∷ []) (it s64_type anonymous 0 1 8 9 nothing ∷ []) (At 9)
-    ∷ row (0x05 ∷ 0x10 ∷ 0x27 ∷ []) (it u16_type anonymous 0 1 2 3 (number 10000) ∷ []) (At 3)
-    ∷ row (0x06 ∷ 0xA0 ∷ 0x86 ∷ 0x01 ∷ 0x00 ∷ []) (it u32_type anonymous 0 1 4 5 (number 100000) ∷ []) (At 5)
-    ∷ row (0x07 ∷ 0x00 ∷ 0x90 ∷ 0x2F ∷ 0x50 ∷ 0x09 ∷ 0x00 ∷ 0x00 ∷ 0x00 ∷ []) (it u64_type anonymous 0 1 8 9 (number 40000000000) ∷ []) (At 9)
-    ∷ row (0x0A ∷ 0x00 ∷ 0x00 ∷ 0x00 ∷ 0x00 ∷ []) (it f32_type anonymous 0 1 4 5 nothing ∷ []) (At 5)
-    ∷ row (0x0B ∷ 0x66 ∷ 0x66 ∷ 0x66 ∷ 0x66 ∷ 0x66 ∷ 0xE6 ∷ 0x31 ∷ 0x40 ∷ []) (it f64_type anonymous 0 1 8 9 nothing ∷ []) (At 9)
+    row (0x00 ∷ 0x2A ∷ []) (it s8_type anonymous 0 1 1 2 nothing ∷ []) (Some 2)
+    ∷ row (0x00 ∷ 0xEF ∷ []) (it s8_type anonymous 0 1 1 2 nothing ∷ []) (Some 2)
+    ∷ row (0x04 ∷ 0x2A ∷ []) (it u8_type anonymous 0 1 1 2 (number 42) ∷ []) (Some 2)
+    ∷ row (0x01 ∷ 0x2A ∷ 0x00 ∷ []) (it s16_type anonymous 0 1 2 3 nothing ∷ []) (Some 3)
+    ∷ row (0x02 ∷ 0xF0 ∷ 0x67 ∷ 0xFD ∷ 0xFF ∷ []) (it s32_type anonymous 0 1 4 5 nothing ∷ []) (Some 5)
+    ∷ row (0x03 ∷ 0x00 ∷ 0x90 ∷ 0x2F ∷ 0x50 ∷ 0x09 ∷ 0x00 ∷ 0x00 ∷ 0x00 ∷ []) (it s64_type anonymous 0 1 8 9 nothing ∷ []) (Some 9)
+    ∷ row (0x05 ∷ 0x10 ∷ 0x27 ∷ []) (it u16_type anonymous 0 1 2 3 (number 10000) ∷ []) (Some 3)
+    ∷ row (0x06 ∷ 0xA0 ∷ 0x86 ∷ 0x01 ∷ 0x00 ∷ []) (it u32_type anonymous 0 1 4 5 (number 100000) ∷ []) (Some 5)
+    ∷ row (0x07 ∷ 0x00 ∷ 0x90 ∷ 0x2F ∷ 0x50 ∷ 0x09 ∷ 0x00 ∷ 0x00 ∷ 0x00 ∷ []) (it u64_type anonymous 0 1 8 9 (number 40000000000) ∷ []) (Some 9)
+    ∷ row (0x0A ∷ 0x00 ∷ 0x00 ∷ 0x00 ∷ 0x00 ∷ []) (it f32_type anonymous 0 1 4 5 nothing ∷ []) (Some 5)
+    ∷ row (0x0B ∷ 0x66 ∷ 0x66 ∷ 0x66 ∷ 0x66 ∷ 0x66 ∷ 0xE6 ∷ 0x31 ∷ 0x40 ∷ []) (it f64_type anonymous 0 1 8 9 nothing ∷ []) (Some 9)
     ∷ []
 
 -- text "Hello!" and "Tschüs", and an octet string, with a length of one octet and of two
 abbrev pub strings : List Row
 strings =
-    row (0x0C ∷ 0x06 ∷ 0x48 ∷ 0x65 ∷ 0x6C ∷ 0x6C ∷ 0x6F ∷ 0x21 ∷ []) (it utf8l_type anonymous 0 2 6 8 nothing ∷ []) (At 8)
-    ∷ row (0x0C ∷ 0x07 ∷ 0x54 ∷ 0x73 ∷ 0x63 ∷ 0x68 ∷ 0xC3 ∷ 0xBC ∷ 0x73 ∷ []) (it utf8l_type anonymous 0 2 7 9 nothing ∷ []) (At 9)
-    ∷ row (0x10 ∷ 0x05 ∷ 0x00 ∷ 0x01 ∷ 0x02 ∷ 0x03 ∷ 0x04 ∷ []) (it str8l_type anonymous 0 2 5 7 (octets (0 ∷ 1 ∷ 2 ∷ 3 ∷ 4 ∷ [])) ∷ []) (At 7)
-    ∷ row (0x11 ∷ 0x02 ∷ 0x00 ∷ 0x01 ∷ 0x02 ∷ []) (it str16l_type anonymous 0 3 2 5 (octets (1 ∷ 2 ∷ [])) ∷ []) (At 5)
+    row (0x0C ∷ 0x06 ∷ 0x48 ∷ 0x65 ∷ 0x6C ∷ 0x6C ∷ 0x6F ∷ 0x21 ∷ []) (it utf8l_type anonymous 0 2 6 8 nothing ∷ []) (Some 8)
+    ∷ row (0x0C ∷ 0x07 ∷ 0x54 ∷ 0x73 ∷ 0x63 ∷ 0x68 ∷ 0xC3 ∷ 0xBC ∷ 0x73 ∷ []) (it utf8l_type anonymous 0 2 7 9 nothing ∷ []) (Some 9)
+    ∷ row (0x10 ∷ 0x05 ∷ 0x00 ∷ 0x01 ∷ 0x02 ∷ 0x03 ∷ 0x04 ∷ []) (it str8l_type anonymous 0 2 5 7 (octets (0 ∷ 1 ∷ 2 ∷ 3 ∷ 4 ∷ [])) ∷ []) (Some 7)
+    ∷ row (0x11 ∷ 0x02 ∷ 0x00 ∷ 0x01 ∷ 0x02 ∷ []) (it str16l_type anonymous 0 3 2 5 (octets (1 ∷ 2 ∷ [])) ∷ []) (Some 5)
     ∷ []
 
 -- an empty structure, array and list
 abbrev pub empties : List Row
 empties =
-    row (0x15 ∷ 0x18 ∷ []) (it struct_type anonymous 0 1 0 1 nothing ∷ end_to 2 ∷ []) (At 2)
-    ∷ row (0x16 ∷ 0x18 ∷ []) (it array_type anonymous 0 1 0 1 nothing ∷ end_to 2 ∷ []) (At 2)
-    ∷ row (0x17 ∷ 0x18 ∷ []) (it list_type anonymous 0 1 0 1 nothing ∷ end_to 2 ∷ []) (At 2)
+    row (0x15 ∷ 0x18 ∷ []) (it struct_type anonymous 0 1 0 1 nothing ∷ end_to 2 ∷ []) (Some 2)
+    ∷ row (0x16 ∷ 0x18 ∷ []) (it array_type anonymous 0 1 0 1 nothing ∷ end_to 2 ∷ []) (Some 2)
+    ∷ row (0x17 ∷ 0x18 ∷ []) (it list_type anonymous 0 1 0 1 nothing ∷ end_to 2 ∷ []) (Some 2)
     ∷ []
 
 -- a structure of 42 under tag 0 and -17 under tag 1; an array of 0 to 4; a list of 1, 42 under tag 0, 2, 3, -17 under tag 0; an array of 42,
@@ -131,11 +124,11 @@ containers =
     ∷ it s8_type context_tagged 1 6 1 7 nothing
     ∷ end_to 8
     ∷ [])
-    (At 8)
+    (Some 8)
     ∷ row
     (0x16 ∷ 0x00 ∷ 0x00 ∷ 0x00 ∷ 0x01 ∷ 0x00 ∷ 0x02 ∷ 0x00 ∷ 0x03 ∷ 0x00 ∷ 0x04 ∷ 0x18 ∷ [])
     (it array_type anonymous 0 1 0 1 nothing ∷ signed_to 3 ∷ signed_to 5 ∷ signed_to 7 ∷ signed_to 9 ∷ signed_to 11 ∷ end_to 12 ∷ [])
-    (At 12)
+    (Some 12)
     ∷ row
     (0x17 ∷ 0x00 ∷ 0x01 ∷ 0x20 ∷ 0x00 ∷ 0x2A ∷ 0x00 ∷ 0x02 ∷ 0x00 ∷ 0x03 ∷ 0x20 ∷ 0x00 ∷ 0xEF ∷ 0x18 ∷ [])
     (it list_type anonymous 0 1 0 1 nothing
@@ -146,7 +139,7 @@ containers =
     ∷ it s8_type context_tagged 0 12 1 13 nothing
     ∷ end_to 14
     ∷ [])
-    (At 14)
+    (Some 14)
     ∷ row
     (0x16 ∷ 0x00 ∷ 0x2A ∷ 0x02 ∷ 0xF0 ∷ 0x67 ∷ 0xFD ∷ 0xFF ∷ 0x15 ∷ 0x18 ∷ 0x0A ∷ 0x33 ∷ 0x33 ∷ 0x8F ∷ 0x41
     ∷ 0x0C ∷ 0x06 ∷ 0x48 ∷ 0x65 ∷ 0x6C ∷ 0x6C ∷ 0x6F ∷ 0x21 ∷ 0x18 ∷ [])
@@ -159,26 +152,26 @@ containers =
     ∷ it utf8l_type anonymous 0 17 6 23 nothing
     ∷ end_to 24
     ∷ [])
-    (At 24)
+    (Some 24)
     ∷ []
 
 -- 42 under a context tag, under tags of the common profile and of the implicit one, and under fully qualified tags; a structure and its member
 abbrev pub tags : List Row
 tags =
-    row (0x24 ∷ 0x01 ∷ 0x2A ∷ []) (it u8_type context_tagged 1 2 1 3 (number 42) ∷ []) (At 3)
-    ∷ row (0x44 ∷ 0x01 ∷ 0x00 ∷ 0x2A ∷ []) (it u8_type common_tagged16 0 3 1 4 (number 42) ∷ []) (At 4)
-    ∷ row (0x64 ∷ 0xA0 ∷ 0x86 ∷ 0x01 ∷ 0x00 ∷ 0x2A ∷ []) (it u8_type common_tagged32 0 5 1 6 (number 42) ∷ []) (At 6)
-    ∷ row (0x84 ∷ 0x01 ∷ 0x00 ∷ 0x2A ∷ []) (it u8_type implicit_tagged16 0 3 1 4 (number 42) ∷ []) (At 4)
-    ∷ row (0xA4 ∷ 0xA0 ∷ 0x86 ∷ 0x01 ∷ 0x00 ∷ 0x2A ∷ []) (it u8_type implicit_tagged32 0 5 1 6 (number 42) ∷ []) (At 6)
-    ∷ row (0xC4 ∷ 0xF1 ∷ 0xFF ∷ 0xED ∷ 0xDE ∷ 0x01 ∷ 0x00 ∷ 0x2A ∷ []) (it u8_type fully_tagged48 0 7 1 8 (number 42) ∷ []) (At 8)
+    row (0x24 ∷ 0x01 ∷ 0x2A ∷ []) (it u8_type context_tagged 1 2 1 3 (number 42) ∷ []) (Some 3)
+    ∷ row (0x44 ∷ 0x01 ∷ 0x00 ∷ 0x2A ∷ []) (it u8_type common_tagged16 0 3 1 4 (number 42) ∷ []) (Some 4)
+    ∷ row (0x64 ∷ 0xA0 ∷ 0x86 ∷ 0x01 ∷ 0x00 ∷ 0x2A ∷ []) (it u8_type common_tagged32 0 5 1 6 (number 42) ∷ []) (Some 6)
+    ∷ row (0x84 ∷ 0x01 ∷ 0x00 ∷ 0x2A ∷ []) (it u8_type implicit_tagged16 0 3 1 4 (number 42) ∷ []) (Some 4)
+    ∷ row (0xA4 ∷ 0xA0 ∷ 0x86 ∷ 0x01 ∷ 0x00 ∷ 0x2A ∷ []) (it u8_type implicit_tagged32 0 5 1 6 (number 42) ∷ []) (Some 6)
+    ∷ row (0xC4 ∷ 0xF1 ∷ 0xFF ∷ 0xED ∷ 0xDE ∷ 0x01 ∷ 0x00 ∷ 0x2A ∷ []) (it u8_type fully_tagged48 0 7 1 8 (number 42) ∷ []) (Some 8)
     ∷ row
     (0xE4 ∷ 0xF1 ∷ 0xFF ∷ 0xED ∷ 0xDE ∷ 0xED ∷ 0xFE ∷ 0x55 ∷ 0xAA ∷ 0x2A ∷ [])
     (it u8_type fully_tagged64 0 9 1 10 (number 42) ∷ [])
-    (At 10)
+    (Some 10)
     ∷ row
     (0xD5 ∷ 0xF1 ∷ 0xFF ∷ 0xED ∷ 0xDE ∷ 0x01 ∷ 0x00 ∷ 0xC4 ∷ 0xF1 ∷ 0xFF ∷ 0xED ∷ 0xDE ∷ 0xAA ∷ 0x00 ∷ 0x2A ∷ 0x18 ∷ [])
     (it struct_type fully_tagged48 0 7 0 7 nothing ∷ it u8_type fully_tagged48 0 14 1 15 (number 42) ∷ end_to 16 ∷ [])
-    (At 16)
+    (Some 16)
     ∷ []
 
 -- ---- what is refused
@@ -187,16 +180,16 @@ tags =
 -- 2^64; a tag and a number that are cut off; a structure that is not closed
 abbrev pub refusals : List Row
 refusals =
-    row (0x38 ∷ 0x00 ∷ []) (refused ∷ []) Broken
-    ∷ row (0x15 ∷ 0x38 ∷ 0x00 ∷ []) (it struct_type anonymous 0 1 0 1 nothing ∷ refused ∷ []) Broken
-    ∷ row (0x19 ∷ []) (refused ∷ []) Broken
-    ∷ row (0x1F ∷ []) (refused ∷ []) Broken
-    ∷ row (0x11 ∷ 0x00 ∷ []) (refused ∷ []) Broken
-    ∷ row (0x10 ∷ 0x05 ∷ 0x00 ∷ []) (refused ∷ []) Broken
-    ∷ row (0x13 ∷ 0xFF ∷ 0xFF ∷ 0xFF ∷ 0xFF ∷ 0xFF ∷ 0xFF ∷ 0xFF ∷ 0xFF ∷ []) (refused ∷ []) Broken
-    ∷ row (0x24 ∷ []) (refused ∷ []) Broken
-    ∷ row (0x05 ∷ 0x2A ∷ []) (refused ∷ []) Broken
-    ∷ row (0x15 ∷ []) (it struct_type anonymous 0 1 0 1 nothing ∷ []) Broken
+    row (0x38 ∷ 0x00 ∷ []) (refused ∷ []) None
+    ∷ row (0x15 ∷ 0x38 ∷ 0x00 ∷ []) (it struct_type anonymous 0 1 0 1 nothing ∷ refused ∷ []) None
+    ∷ row (0x19 ∷ []) (refused ∷ []) None
+    ∷ row (0x1F ∷ []) (refused ∷ []) None
+    ∷ row (0x11 ∷ 0x00 ∷ []) (refused ∷ []) None
+    ∷ row (0x10 ∷ 0x05 ∷ 0x00 ∷ []) (refused ∷ []) None
+    ∷ row (0x13 ∷ 0xFF ∷ 0xFF ∷ 0xFF ∷ 0xFF ∷ 0xFF ∷ 0xFF ∷ 0xFF ∷ 0xFF ∷ []) (refused ∷ []) None
+    ∷ row (0x24 ∷ []) (refused ∷ []) None
+    ∷ row (0x05 ∷ 0x2A ∷ []) (refused ∷ []) None
+    ∷ row (0x15 ∷ []) (it struct_type anonymous 0 1 0 1 nothing ∷ []) None
     ∷ []
 
 -- ---- the table

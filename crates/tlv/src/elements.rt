@@ -15,24 +15,16 @@ pub struct Element {
     pub next: usize,
 }
 
-// What stands at a position: an element, or nothing that can be read.
-#[derive(Clone, Copy)]
-pub enum Parsed {
-    Whole(Element),
-    Malformed,
-}
-
 // Whether a control byte is of a known type: an end has no tag.
+#[tactic(auto, unfolding(crate::specs::Elements::known))]
 fn is_known(control: u8) -> bool
     ensures { result ≡ known control }
 {
-    if control % ValueType::COUNT < ValueType::END_CNT {
-        return true;
-    }
-    control == ValueType::END_CNT
+    control % ValueType::COUNT < ValueType::END_CNT || control == ValueType::END_CNT
 }
 
 // How many bytes a tag has.
+#[tactic(auto, unfolding(crate::specs::Elements::tag_size))]
 fn tag_size(form: u8) -> usize
     requires { form < 8 }
     ensures { result ≡ tag_size form }
@@ -51,16 +43,15 @@ fn tag_size(form: u8) -> usize
 }
 
 // Whether a value stands behind its length, as text and octet strings do.
+#[tactic(auto, unfolding(crate::specs::Elements::measured))]
 fn is_measured(kind: u8) -> bool
     ensures { result ≡ measured kind }
 {
-    if ValueType::F64 < kind {
-        return kind < ValueType::NULL;
-    }
-    false
+    matches!(kind, ValueType::UTF8L..=ValueType::STR64L)
 }
 
 // 1, 2, 4 or 8, as the low two bits of a type say.
+#[tactic(auto, using(crate::proofs::Heads::width_shifted), unfolding(crate::specs::Elements::width))]
 pub(crate) fn width_of(kind: u8) -> usize
     ensures { result ≡ width kind }
 {
@@ -68,6 +59,7 @@ pub(crate) fn width_of(kind: u8) -> usize
 }
 
 // How many bytes the length of a value has.
+#[tactic(auto, unfolding(crate::specs::Elements::length_size))]
 fn length_size(kind: u8) -> usize
     ensures { result ≡ length_size kind }
 {
@@ -78,6 +70,7 @@ fn length_size(kind: u8) -> usize
 }
 
 // How many bytes a value without a length has.
+#[tactic(auto, unfolding(crate::specs::Elements::plain_size))]
 fn plain_size(kind: u8) -> usize
     ensures { result ≡ plain_size kind }
 {
@@ -93,31 +86,25 @@ fn plain_size(kind: u8) -> usize
     0
 }
 
-fn wide(b: u8) -> u64
-    ensures { result ≡ b }
-{
-    b as u64
-}
-
 // The number that up to eight bytes hold from a position on, the lowest first.
+#[tactic(auto, unfolding(crate::specs::Elements::little))]
 pub(crate) fn number(bytes: &[u8], at: usize, size: usize) -> u64
     requires size_in_bounds { at + size ≤ length bytes.now }
     requires size_bound { size ≤ 8 }
     ensures { result ≡ little size bytes.now at }
 {
     if size == 1 {
-        return wide(bytes[at]);
+        return u64::from(bytes[at]);
     }
     let mut value: u64 = 0;
-    let mut i = size;
-    while 0 < i {
-        i -= 1;
-        value = value * 256 + wide(bytes[at + i]);
+    for i in (0..size).rev() {
+        value = value * 256 + u64::from(bytes[at + i]);
     }
     value
 }
 
 // The number of a context tag, or 0. The tag stands behind the control byte at `at`.
+#[tactic(auto, unfolding(crate::specs::Elements::context_tag, crate::specs::Elements::tag_size))]
 fn context_tag(bytes: &[u8], at: usize, form: u8) -> u8
     requires { at + tag_size form < length bytes.now }
     ensures { result ≡ context_tag bytes.now at form }
@@ -129,6 +116,7 @@ fn context_tag(bytes: &[u8], at: usize, form: u8) -> u8
 }
 
 // How many bytes a value has whose length, if it has one, stands at a position.
+#[tactic(auto, using(crate::proofs::Heads::width_le), unfolding(crate::specs::Elements::size_of, crate::specs::Elements::length_size))]
 fn value_size(bytes: &[u8], from: usize, kind: u8) -> u64
     requires { from + length_size kind ≤ length bytes.now }
     ensures { result ≡ size_of bytes.now kind from }
@@ -139,32 +127,33 @@ fn value_size(bytes: &[u8], from: usize, kind: u8) -> u64
     plain_size(kind) as u64
 }
 
-// The element at a position.
-pub fn element_at(bytes: &[u8], at: usize) -> Parsed
+// The element at a position, if one can be read there.
+#[tactic(auto, using(crate::proofs::Heads::element_heads))]
+pub fn element_at(bytes: &[u8], at: usize) -> Option<Element>
     ensures { result ≡ element_at bytes.now at }
 {
     if bytes.len() <= at {
-        return Parsed::Malformed;
+        return None;
     }
     let control = bytes[at];
     if !is_known(control) {
-        return Parsed::Malformed;
+        return None;
     }
     let kind = control % ValueType::COUNT;
     let form = control / ValueType::COUNT;
     let tag_bytes = tag_size(form);
     let length_bytes = length_size(kind);
     if bytes.len() - at - 1 < tag_bytes + length_bytes {
-        return Parsed::Malformed;
+        return None;
     }
     let from = at + 1 + tag_bytes;
     let value = from + length_bytes;
     let size = value_size(bytes, from, kind) as usize;
     if bytes.len() - value < size {
-        return Parsed::Malformed;
+        return None;
     }
     let tag = context_tag(bytes, at, form);
-    Parsed::Whole(Element {
+    Some(Element {
         kind,
         form,
         tag,

@@ -9,6 +9,7 @@ use crate::types::{TagType, ValueType};
 use text_output::{put, put_text};
 
 // The type of the smallest unsigned width that holds a number.
+#[tactic(auto, unfolding(crate::specs::Encoding::smallest))]
 fn smallest_of(v: u64) -> u8
     ensures { result ≡ smallest v }
 {
@@ -25,6 +26,7 @@ fn smallest_of(v: u64) -> u8
 }
 
 // A type under a context tag: all of a null, a boolean or the start of a container.
+#[tactic(auto, unfolding(text_output::specs::Writing::puts))]
 pub fn put_head(out: &mut [u8], at: usize, tag: u8, kind: u8) -> usize
     requires { kind < 32 }
     ensures { sheet out.new result ≡ puts (context tag kind) (sheet out.old at) }
@@ -39,11 +41,9 @@ fn put_low(out: &mut [u8], at: usize, v: u64, size: usize) -> usize
 {
     let mut next = at;
     let mut rest = v;
-    let mut left = size;
-    while 0 < left {
+    for _ in 0..size {
         next = put(out, next, (rest % 256) as u8);
-        rest = rest / 256;
-        left -= 1;
+        rest /= 256;
     }
     next
 }
@@ -79,6 +79,7 @@ pub fn put_bool(out: &mut [u8], at: usize, tag: u8, flag: bool) -> usize
 }
 
 // A type without a tag: the start of a container, or its end.
+#[tactic(auto, unfolding(text_output::specs::Writing::puts))]
 pub fn put_plain(out: &mut [u8], at: usize, kind: u8) -> usize
     ensures { sheet out.new result ≡ puts (kind ∷ []) (sheet out.old at) }
 {
@@ -86,6 +87,7 @@ pub fn put_plain(out: &mut [u8], at: usize, kind: u8) -> usize
 }
 
 // How many bytes a number takes.
+#[tactic(auto, using(crate::proofs::Heads::width_le))]
 pub fn number_size(v: u64) -> usize
     ensures { result ≡ number_size v }
 {
@@ -93,6 +95,7 @@ pub fn number_size(v: u64) -> usize
 }
 
 // How many bytes an octet string of n bytes takes. No slice is as long as half the numbers of 64 bits.
+#[tactic(auto, using(crate::proofs::Codes::number_size_le))]
 pub fn octets_size(n: usize) -> usize
     requires { n < 2 ^ 63 }
     ensures { result ≡ octets_size n }

@@ -8,11 +8,11 @@ mod passing;
 mod types;
 mod values;
 
-pub use elements::{Element, Parsed, element_at};
+pub use elements::{Element, element_at};
 pub use encoding::{
     number_size, octets_size, put_bool, put_head, put_number, put_octets, put_plain,
 };
 pub use members::{Step, member_at};
-pub use passing::{Next, container_next, is_container};
+pub use passing::{container_next, is_container};
 pub use types::{TagType, ValueType};
-pub use values::{Boolean, Number, Octets, bool_at, inside_at, number_at, octets_at};
+pub use values::{Span, bool_at, inside_at, number_at, octets_at};

@@ -2,8 +2,8 @@
 ghost use Rattle.std.specs.Prelude.{◌≡◌};
 ghost use Rattle.tlv.specs.Members.{member_at};
 
-use crate::elements::{Element, Parsed, element_at};
-use crate::passing::{Next, container_next, is_container};
+use crate::elements::{Element, element_at};
+use crate::passing::{container_next, is_container};
 use crate::types::ValueType;
 
 // What stands at a position in a container: a member and the position behind all of it, the end, or nothing that can be read.
@@ -15,13 +15,14 @@ pub enum Step {
 }
 
 // The member at a position. Only a container is passed over element by element.
+#[tactic(auto, using(crate::proofs::Walks::member_plain), unfolding(crate::specs::Members::member_at))]
 pub fn member_at(bytes: &[u8], at: usize) -> Step
     ensures { result ≡ member_at bytes.now at }
 {
     if bytes.len() <= at {
         return Step::End;
     }
-    let Parsed::Whole(h) = element_at(bytes, at) else {
+    let Some(h) = element_at(bytes, at) else {
         return Step::Damaged;
     };
     if h.kind == ValueType::END_CNT {
@@ -30,7 +31,7 @@ pub fn member_at(bytes: &[u8], at: usize) -> Step
     if !is_container(h.kind) {
         return Step::Member(h, h.next);
     }
-    let Next::At(next) = container_next(bytes, at) else {
+    let Some(next) = container_next(bytes, at) else {
         return Step::Damaged;
     };
     Step::Member(h, next)

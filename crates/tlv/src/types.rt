@@ -1,4 +1,6 @@
-// The element types and the tag controls, by the names of the Rust's `TLVValueType` and `TLVTagType`.
+// The element types and the tag controls, by the names of the Rust's `TLVValueType` and `TLVTagType`. They stay numbers: a width is read off the
+// low two bits (`kind % WIDTHS`), an octet string's type is its length's plus 12, and readers compare by order (`kind <= most`): an enum would be
+// turned back into its number at each of these places.
 pub struct ValueType;
 
 impl ValueType {

@@ -4,10 +4,7 @@
 #![tactic(auto)]
 
 use std::io::Print;
-use tlv::{
-    Boolean, Element, Next, Number, Octets, Parsed, ValueType, bool_at, container_next, element_at,
-    number_at, octets_at,
-};
+use tlv::{Element, ValueType, bool_at, container_next, element_at, number_at, octets_at};
 
 // A write that fails ends nothing, here and below: the rows after it are tried all the same.
 fn text(rt: &impl Print, t: &[u8]) {
@@ -18,42 +15,35 @@ fn number(rt: &impl Print, n: u64) {
     let _ = print!(rt; " {n}");
 }
 
-fn wide(b: u8) -> u64 {
-    b as u64
-}
-
 // The bytes themselves.
 fn hex(rt: &impl Print, bytes: &[u8]) {
-    let mut i = 0;
-    while i < bytes.len() {
-        let b = wide(bytes[i]);
+    for b in bytes {
         let _ = print!(rt; "{b:02x}");
-        i += 1;
     }
     text(rt, b":");
 }
 
 // What the readers make of the element at a position.
 fn said(rt: &impl Print, bytes: &[u8], at: usize) {
-    if let Number::Value(v) = number_at(bytes, at, ValueType::U64) {
+    if let Some(v) = number_at(bytes, at, ValueType::U64) {
         text(rt, b" =");
         number(rt, v);
     }
-    if let Boolean::Is(b) = bool_at(bytes, at) {
+    if let Some(b) = bool_at(bytes, at) {
         text(rt, b" is");
-        number(rt, b as u64);
+        number(rt, u64::from(b));
     }
-    if let Octets::Span(from, to) = octets_at(bytes, at) {
+    if let Some(span) = octets_at(bytes, at) {
         text(rt, b" octets");
-        number(rt, from as u64);
-        number(rt, to as u64);
+        number(rt, span.from as u64);
+        number(rt, span.to as u64);
     }
 }
 
 fn head(rt: &impl Print, h: Element) {
-    number(rt, h.kind as u64);
-    number(rt, h.form as u64);
-    number(rt, h.tag as u64);
+    number(rt, u64::from(h.kind));
+    number(rt, u64::from(h.form));
+    number(rt, u64::from(h.tag));
     number(rt, h.value as u64);
     number(rt, h.next as u64);
 }
@@ -62,7 +52,7 @@ fn head(rt: &impl Print, h: Element) {
 fn elements(rt: &impl Print, bytes: &[u8]) {
     let mut i = 0;
     while i < bytes.len() {
-        let Parsed::Whole(h) = element_at(bytes, i) else {
+        let Some(h) = element_at(bytes, i) else {
             text(rt, b" refused;");
             return;
         };
@@ -77,11 +67,11 @@ fn row(rt: &impl Print, bytes: &[u8]) {
     hex(rt, bytes);
     elements(rt, bytes);
     match container_next(bytes, 0) {
-        Next::At(next) => {
+        Some(next) => {
             text(rt, b" behind");
             number(rt, next as u64);
         }
-        Next::Broken => {
+        None => {
             text(rt, b" broken");
         }
     }

@@ -5,14 +5,12 @@ use mathlib.Core.Bool.{true, false, cond}
 use mathlib.Core.List.{List}
 use native.Mathlib.Omega.{arith}
 use lib.ListN.{length}
+use Rattle.std.proofs.Common.{Option, Some, None}
+use Rattle.std.proofs.lemmas.Option.{none-some, same_Some}
 use Rattle.tlv.specs.declared.elements.Element.{Element}
-use Rattle.tlv.specs.declared.elements.Parsed.TheVariants.{Whole, Malformed}
-use Rattle.tlv.specs.declared.passing.Next.{Next}
-use Rattle.tlv.specs.declared.passing.Next.TheVariants.{At, Broken}
 use Rattle.tlv.specs.Elements.{opens, element_at}
 use Rattle.tlv.specs.Passing.{reading}
 use Rattle.tlv.proofs.Heads.{element_on}
-use Rattle.tlv.proofs.Passes.{at_same, nowhere}
 use Rattle.tlv_skip.specs.Containers.{Taken, Known, Refused, taken_from}
 use Rattle.tlv_skip.specs.Skipping.{past, behind, skipped}
 use Rattle.tlv_skip.proofs.Taking.{Forward, known_next, unknown, taken_leads}
@@ -22,44 +20,44 @@ abbrev pub within : ℕ → List ℕ → Unit {0} → ℕ → Element → Taken 
 within depth b u i m = past (skipped depth b i)
 
 -- where both end
-past_same : (r : Next) (u : Unit {0}) (n : ℕ) → past r ≡ Known u n → r ≡ At n
-past_same (At m) u n e = ap At (known_next tt u m n e)
-past_same Broken u n e = unknown u n e
+past_same : (r : Option ℕ) (u : Unit {0}) (n : ℕ) → past r ≡ Known u n → r ≡ Some n
+past_same (Some m) u n e = ap Some (known_next tt u m n e)
+past_same None u n e = unknown u n e
 
-behind-same : (r : Taken (Unit {0})) (n : ℕ) → behind r ≡ At n → r ≡ Known tt n
-behind-same (Known u m) n e = ap (Known tt) (at_same m n e)
-behind-same Refused n e = nowhere n e
+behind-same : (r : Taken (Unit {0})) (n : ℕ) → behind r ≡ Some n → r ≡ Known tt n
+behind-same (Known u m) n e = ap (Known tt) (same_Some m n e)
+behind-same Refused n e = absurd (none-some n e)
 
 module _ (b : List ℕ) where
   -- what is skipped ends further on, and within the bytes
   abbrev Leads : ℕ → Type 0
-  Leads d = (at n : ℕ) → skipped d b at ≡ At n → (at < n) × (n ≤ length b)
+  Leads d = (at n : ℕ) → skipped d b at ≡ Some n → (at < n) × (n ≤ length b)
 
   leads_forward : (d : ℕ) → Leads d → Forward (within d b) b
   leads_forward d leads so at h e u n f = (leads at n (past_same (skipped d b at) u n f)).0
 
   -- what is made of an element, where it is given how the members of a container are passed
-  abbrev entered : (ℕ → Next) → Element → Next
-  entered into h = cond (opens h.kind) (into h.next) (At h.next)
+  abbrev entered : (ℕ → Option ℕ) → Element → Option ℕ
+  entered into h = cond (opens h.kind) (into h.next) (Some h.next)
 
   entered_leads :
-      (into : ℕ → Next) →
-      ((at n : ℕ) → into at ≡ At n → (at < n) × (n ≤ length b)) →
-      (at n : ℕ) → reading (element_at b at) Broken (entered into) ≡ At n → (at < n) × (n ≤ length b)
+      (into : ℕ → Option ℕ) →
+      ((at n : ℕ) → into at ≡ Some n → (at < n) × (n ≤ length b)) →
+      (at n : ℕ) → reading (element_at b at) None (entered into) ≡ Some n → (at < n) × (n ≤ length b)
   entered_leads into leads at n =
-      elim (element_at b at) as (λ r. element_at b at ≡ r → reading r Broken (entered into) ≡ At n → (at < n) × (n ≤ length b)) [
-        | Whole h ↦ λ e.
+      elim (element_at b at) as (λ r. element_at b at ≡ r → reading r None (entered into) ≡ Some n → (at < n) × (n ≤ length b)) [
+        | Some h ↦ λ e.
             let o = element_on b at h e in
-            elim (opens h.kind) as (λ t. cond t (into h.next) (At h.next) ≡ At n → (at < n) × (n ≤ length b)) [
+            elim (opens h.kind) as (λ t. cond t (into h.next) (Some h.next) ≡ Some n → (at < n) × (n ≤ length b)) [
               | true ↦ λ f. let l = leads h.next n f in (omega arith, omega arith)
-              | false ↦ λ f. let x = at_same h.next n f in (omega arith, omega arith)
+              | false ↦ λ f. let x = same_Some h.next n f in (omega arith, omega arith)
             ]
-        | Malformed ↦ λ e f. nowhere n f
+        | None ↦ λ e f. absurd (none-some n f)
       ] refl
 
   pub skipped_leads : (d : ℕ) → Leads d
   unfolding skipped
-  skipped_leads zero = entered_leads (λ at. Broken) (λ at n e. nowhere n e)
+  skipped_leads zero = entered_leads (λ at. None) (λ at n e. absurd (none-some n e))
   skipped_leads (suc d) =
       entered_leads
       (λ at. behind (taken_from (within d b) b tt at))
@@ -79,18 +77,18 @@ module _ (b : List ℕ) where
   skipped_forward d = leads_forward d (skipped_leads d)
 
   module _ (at : ℕ) where
-    pub skip_broken : (d : ℕ) → element_at b at ≡ Malformed → skipped d b at ≡ Broken
+    pub skip_broken : (d : ℕ) → element_at b at ≡ None → skipped d b at ≡ None
     unfolding skipped
     skip_broken zero e = rw e
     skip_broken (suc d) e = rw e
 
-    module _ (h : Element) (e : element_at b at ≡ Whole h) where
-      pub skip_plain : (d : ℕ) → opens h.kind ≡ false → skipped d b at ≡ At h.next
+    module _ (h : Element) (e : element_at b at ≡ Some h) where
+      pub skip_plain : (d : ℕ) → opens h.kind ≡ false → skipped d b at ≡ Some h.next
       unfolding skipped
       skip_plain zero o = rw (e, o)
       skip_plain (suc d) o = rw (e, o)
 
-      pub skip_deep : (d : ℕ) → opens h.kind ≡ true → d ≡ 0 → skipped d b at ≡ Broken
+      pub skip_deep : (d : ℕ) → opens h.kind ≡ true → d ≡ 0 → skipped d b at ≡ None
       unfolding skipped
       skip_deep zero o z = rw (e, o)
       skip_deep (suc d) o z = let w : ⊥ = omega arith in absurd w
@@ -102,3 +100,6 @@ module _ (b : List ℕ) where
       skip_enters (suc d) o z =
           let p : d ≡ suc d - 1 = omega arith in
           rw (e, o) (ap (λ (k : ℕ). behind (taken_from (within k b) b tt h.next)) p)
+
+-- how an element is skipped
+pub ruleset skips = (skip_broken, skip_plain, skip_deep, skip_enters)

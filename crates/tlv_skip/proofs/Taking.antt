@@ -7,8 +7,8 @@ use native.Mathlib.Omega.{arith}
 use lib.Dec.{eqb}
 use lib.ListN.{length}
 use borrow.Author.Tests.{eq-eqb, ne_eqb}
+use Rattle.std.proofs.Common.{Some, None}
 use Rattle.tlv.specs.declared.elements.Element.{Element}
-use Rattle.tlv.specs.declared.elements.Parsed.TheVariants.{Whole, Malformed}
 use Rattle.tlv.specs.Types.{end_type}
 use Rattle.tlv.specs.Elements.{element_at}
 use Rattle.tlv.specs.Passing.{reading}
@@ -28,7 +28,7 @@ module _ {S : Type 0} where
 module _ {S : Type 0} (take : S → ℕ → Element → Taken S) (b : List ℕ) where
   -- what is behind a member stands further on
   abbrev pub Forward : Type 0
-  Forward = (so : S) (at : ℕ) (h : Element) → element_at b at ≡ Whole h → (s : S) (n : ℕ) → take so at h ≡ Known s n → at < n
+  Forward = (so : S) (at : ℕ) (h : Element) → element_at b at ≡ Some h → (s : S) (n : ℕ) → take so at h ≡ Known s n → at < n
 
   -- what is made of an element, with up to k members behind it
   abbrev member : ℕ → S → ℕ → Element → Taken S
@@ -40,11 +40,11 @@ module _ {S : Type 0} (take : S → ℕ → Element → Taken S) (b : List ℕ) 
   taken-outside (suc k) so at l = rw (element_outside b at l)
 
   module _ (so : S) (at : ℕ) where
-    pub take_broken : element_at b at ≡ Malformed → taken_from take b so at ≡ Refused
+    pub take_broken : element_at b at ≡ None → taken_from take b so at ≡ Refused
     unfolding taken
     take_broken e = rw e
 
-    module _ (h : Element) (e : element_at b at ≡ Whole h) where
+    module _ (h : Element) (e : element_at b at ≡ Some h) where
       pub take_ends : h.kind ≡ end_type → taken_from take b so at ≡ Known so h.next
       unfolding taken
       take_ends z = rw (e, eq-eqb h.kind end_type z)
@@ -61,18 +61,18 @@ module _ {S : Type 0} (take : S → ℕ → Element → Taken S) (b : List ℕ) 
     taken_enough (suc k) zero so at p q = taken-outside (suc k) so at (omega arith)
     taken_enough (suc k) (suc j) so at p q =
         elim (element_at b at) as (λ r. element_at b at ≡ r → reading r Refused (member k so at) ≡ reading r Refused (member j so at)) [
-          | Whole h ↦ λ e.
+          | Some h ↦ λ e.
               ap (cond (eqb h.kind end_type) (Known so h.next))
               (elim (take so at h) as (λ r. take so at h ≡ r → onward r Refused (taken take b k) ≡ onward r Refused (taken take b j)) [
                 | Known s n ↦ λ f. let l = forward so at h e s n f in taken_enough k j s n (omega arith) (omega arith)
                 | Refused ↦ λ f. refl
               ] refl)
-          | Malformed ↦ λ e. refl
+          | None ↦ λ e. refl
         ] refl
 
     pub take_goes :
         (so : S) (at : ℕ) (h : Element) →
-        element_at b at ≡ Whole h →
+        element_at b at ≡ Some h →
         (h.kind ≡ end_type → ⊥) →
         (s : S) (n : ℕ) →
         take so at h ≡ Known s n →
@@ -88,7 +88,7 @@ module _ {S : Type 0} (take : S → ℕ → Element → Taken S) (b : List ℕ) 
     taken_leads zero so at s n = λ e. unknown s n e
     taken_leads (suc k) so at s n =
         elim (element_at b at) as (λ r. element_at b at ≡ r → reading r Refused (member k so at) ≡ Known s n → (at < n) × (n ≤ length b)) [
-          | Whole h ↦ λ e.
+          | Some h ↦ λ e.
               let o = element_on b at h e in
               elim (eqb h.kind end_type) as
               (λ t. cond t (Known so h.next) (onward (take so at h) Refused (taken take b k)) ≡ Known s n → (at < n) × (n ≤ length b)) [
@@ -102,13 +102,13 @@ module _ {S : Type 0} (take : S → ℕ → Element → Taken S) (b : List ℕ) 
                       | Refused ↦ λ g f. unknown s n f
                     ] refl
               ]
-          | Malformed ↦ λ e f. unknown s n f
+          | None ↦ λ e f. unknown s n f
         ] refl
 
     -- what each member keeps holds where the end stands
     module _ (P : S → ℕ → Type 0) where
       abbrev pub Keeps : Type 0
-      Keeps = (so : S) (at : ℕ) (h : Element) → element_at b at ≡ Whole h → (s : S) (n : ℕ) → take so at h ≡ Known s n → P so at → P s n
+      Keeps = (so : S) (at : ℕ) (h : Element) → element_at b at ≡ Some h → (s : S) (n : ℕ) → take so at h ≡ Known s n → P so at → P s n
 
       pub record Ended (s : S) (n : ℕ) : Type 0 where
         pub end : ℕ
@@ -120,7 +120,7 @@ module _ {S : Type 0} (take : S → ℕ → Element → Taken S) (b : List ℕ) 
       taken_keeps keeps zero so at s n p = λ e. unknown s n e
       taken_keeps keeps (suc k) so at s n p =
           elim (element_at b at) as (λ r. element_at b at ≡ r → reading r Refused (member k so at) ≡ Known s n → Ended s n) [
-            | Whole h ↦ λ e.
+            | Some h ↦ λ e.
                 elim (eqb h.kind end_type) as
                 (λ t. cond t (Known so h.next) (onward (take so at h) Refused (taken take b k)) ≡ Known s n → Ended s n) [
                   | true ↦ λ f. record {
@@ -134,5 +134,5 @@ module _ {S : Type 0} (take : S → ℕ → Element → Taken S) (b : List ℕ) 
                         | Refused ↦ λ g f. unknown s n f
                       ] refl
                 ]
-            | Malformed ↦ λ e f. unknown s n f
+            | None ↦ λ e f. unknown s n f
           ] refl

@@ -1,16 +1,20 @@
 -- The laws of the positions below a count. Assumes nothing.
 use Prim.Native.Nat.{ℕ, zero, suc, ◌+◌, ◌≤◌, ◌<◌}
-use mathlib.Core.Path.{◌≡◌, refl, sym, ap, ap₂, subst, ◌∙◌}
+use mathlib.Core.Path.{◌≡◌, refl, sym, ap, subst, ◌∙◌}
 use mathlib.Core.Bool.{Bool, true, false, not, cond, ◌&&◌, ◌||◌}
 use mathlib.Core.List.{List, [], ◌∷◌, ◌++◌}
 use mathlib.Core.Logic.{⊎_elim}
 use native.Mathlib.Numerals.{add-one}
 use native.Mathlib.Nat.{not-suc-le-zero, le_of_suc-le-suc, eq-or-lt_of_le}
 use native.Mathlib.Omega.{arith}
-use lib.ListN.{length, get_or, length-append}
+use lib.ListN.{length, get_or, take, length-append}
+use lib.Seq.{length-take-le, get_or-take}
+use borrow.Author.Tests.{lt-ltb, le-ltb}
+use Rattle.std.specs.List.{list_all, list_any, count_by, position}
+use Rattle.std.proofs.lemmas.List.Folds.{list_all_more, list_any_more}
+use Rattle.std.proofs.lemmas.List.Sums.{count_by_more_yes, count_by_more_no, position_or_len_is}
 use Rattle.words.specs.Below.{every_below, any_below, count_below, kept_below, first_below, or_else}
-use Rattle.words.specs.declared.Found.{Found}
-use Rattle.words.specs.declared.Found.TheVariants.{At, Nothing}
+use Rattle.std.specs.Prelude.{Option, Some, None}
 use Rattle.words.proofs.Tests.{and_intro, and_false, or_true, or_false, neither_left, neither_right, not_false}
 
 -- what holds of each element, and of one more behind them
@@ -46,11 +50,6 @@ module _ (p : ℕ → Bool) where
   pub every_more : (i : ℕ) → every_below p i ≡ true → p i ≡ true → every_below p (i + 1) ≡ true
   unfolding every_below
   every_more i h e = rw (add-one, h) e
-
-  -- a turn of a loop that tests every position
-  pub every_next : (i : ℕ) (b t : Bool) → b ≡ every_below p i → t ≡ p i → (b && t) ≡ every_below p (i + 1)
-  unfolding every_below
-  every_next i b t h e = rw (add-one) (ap₂ (λ (x y : Bool). x && y) h e)
 
   -- a block of k positions from i on at none of which p fails
   pub every_block : (i k : ℕ) → any_below (λ j. not (p (i + j))) k ≡ false → every_below p i ≡ true → every_below p (i + k) ≡ true
@@ -93,24 +92,11 @@ module _ (p : ℕ → Bool) where
   unfolding any_below
   any_miss i e = rw (add-one i, e) (or_false (any_below p i))
 
-  -- a turn of a loop that looks at every position
-  pub any_next : (i : ℕ) (b t : Bool) → b ≡ any_below p i → t ≡ p i → (b || t) ≡ any_below p (i + 1)
-  unfolding any_below
-  any_next i b t h e = rw (add-one) (ap₂ (λ (x y : Bool). x || y) h e)
-
   -- ---- at how many
 
   pub count_none : count_below p 0 ≡ 0
   unfolding count_below
   count_none = refl
-
-  pub count_hit : (i : ℕ) → p i ≡ true → count_below p (i + 1) ≡ count_below p i + 1
-  unfolding count_below
-  count_hit i e = rw (add-one i, e) (sym (add-one (count_below p i)))
-
-  pub count_miss : (i : ℕ) → p i ≡ false → count_below p (i + 1) ≡ count_below p i
-  unfolding count_below
-  count_miss i e = rw (add-one i, e)
 
   pub count_le : (i : ℕ) → count_below p i ≤ i
   unfolding count_below
@@ -158,24 +144,24 @@ module _ (p : ℕ → Bool) where
 
   -- ---- at which first
 
-  pub first_none : first_below p 0 ≡ Nothing
+  pub first_none : first_below p 0 ≡ None
   unfolding first_below
   first_none = refl
 
-  pub first_more : (i : ℕ) → first_below p i ≡ Nothing → p i ≡ false → first_below p (i + 1) ≡ Nothing
+  pub first_more : (i : ℕ) → first_below p i ≡ None → p i ≡ false → first_below p (i + 1) ≡ None
   unfolding first_below or_else
   first_more i h e = rw (add-one i, h, e)
 
   -- a block of k positions from i on at which p does not hold
-  pub first_block : (i k : ℕ) → any_below (λ j. p (i + j)) k ≡ false → first_below p i ≡ Nothing → first_below p (i + k) ≡ Nothing
+  pub first_block : (i k : ℕ) → any_below (λ j. p (i + j)) k ≡ false → first_below p i ≡ None → first_below p (i + k) ≡ None
   unfolding any_below
-  first_block i zero e h = subst (λ m. first_below p m ≡ Nothing) (omega arith) h
+  first_block i zero e h = subst (λ m. first_below p m ≡ None) (omega arith) h
   first_block i (suc k) e h =
       let none = first_more (i + k) (first_block i k (neither_left _ (p (i + k)) e) h) (neither_right (any_below (λ j. p (i + j)) k) _ e) in
-      subst (λ m. first_below p m ≡ Nothing) (omega arith) none
+      subst (λ m. first_below p m ≡ None) (omega arith) none
 
   -- the loop that finds at i
-  pub first_at : (n i : ℕ) → i < n → first_below p i ≡ Nothing → p i ≡ true → first_below p n ≡ At i
+  pub first_at : (n i : ℕ) → i < n → first_below p i ≡ None → p i ≡ true → first_below p n ≡ Some i
   unfolding first_below or_else
   first_at zero i h e q = absurd (not-suc-le-zero h)
   first_at (suc n) i h e q =
@@ -184,43 +170,86 @@ module _ (p : ℕ → Bool) where
       (eq-or-lt_of_le (le_of_suc-le-suc h))
 
   -- what was found is the first of more positions too
-  pub first_stays : (m n i : ℕ) → n ≤ m → first_below p n ≡ At i → first_below p m ≡ At i
+  pub first_stays : (m n i : ℕ) → n ≤ m → first_below p n ≡ Some i → first_below p m ≡ Some i
   unfolding first_below or_else
-  first_stays zero n i h e = let z : n ≡ 0 = omega arith in subst (λ (k : ℕ). first_below p k ≡ At i) z e
+  first_stays zero n i h e = let z : n ≡ 0 = omega arith in subst (λ (k : ℕ). first_below p k ≡ Some i) z e
   first_stays (suc m) n i h e =
-      ⊎_elim (λ r. subst (λ (k : ℕ). first_below p k ≡ At i) r e)
+      ⊎_elim (λ r. subst (λ (k : ℕ). first_below p k ≡ Some i) r e)
       (λ l. rw (first_stays m n i (le_of_suc-le-suc l) e))
       (eq-or-lt_of_le h)
 
   -- what was found is below n, and p holds there
-  pub first_under : (n i : ℕ) → first_below p n ≡ At i → (i < n) × (p i ≡ true)
+  pub first_under : (n i : ℕ) → first_below p n ≡ Some i → (i < n) × (p i ≡ true)
   unfolding first_below or_else
   first_under zero i e = let z : ◌≡◌ {A = ℕ} 0 1 = cc in let w : ⊥ = omega arith in absurd w
   first_under (suc n) i e = go (first_below p n) (p n) refl refl (λ j q. first_under n j q) e
     where
-      go : (f : Found) (b : Bool) → first_below p n ≡ f → p n ≡ b → ((j : ℕ) → first_below p n ≡ At j → (j < n) × (p j ≡ true)) → or_else f (cond b (At n) Nothing) ≡ At i → (i < suc n) × (p i ≡ true)
-      go (At j) b q r ih k = let s : j ≡ i = cc in let h = ih j q in (omega arith, ap p (sym s) ∙ h.1)
-      go Nothing true q r ih k = let s : n ≡ i = cc in (omega arith, ap p (sym s) ∙ r)
-      go Nothing false q r ih k = let z : ◌≡◌ {A = ℕ} 0 1 = cc in let w : ⊥ = omega arith in absurd w
+      go : (f : Option ℕ) (b : Bool) → first_below p n ≡ f → p n ≡ b → ((j : ℕ) → first_below p n ≡ Some j → (j < n) × (p j ≡ true)) → or_else f (cond b (Some n) None) ≡ Some i → (i < suc n) × (p i ≡ true)
+      go (Some j) b q r ih k = let s : j ≡ i = cc in let h = ih j q in (omega arith, ap p (sym s) ∙ h.1)
+      go None true q r ih k = let s : n ≡ i = cc in (omega arith, ap p (sym s) ∙ r)
+      go None false q r ih k = let z : ◌≡◌ {A = ℕ} 0 1 = cc in let w : ⊥ = omega arith in absurd w
 
   -- where nothing was found p holds nowhere
-  pub first_nothing : (n : ℕ) → first_below p n ≡ Nothing → (j : ℕ) → j < n → p j ≡ false
+  pub first_nothing : (n : ℕ) → first_below p n ≡ None → (j : ℕ) → j < n → p j ≡ false
   unfolding first_below or_else
   first_nothing zero e j h = absurd (not-suc-le-zero h)
   first_nothing (suc n) e j h = go (first_below p n) (p n) refl refl (first_nothing n) e
     where
-      go : (f : Found) (b : Bool) → first_below p n ≡ f → p n ≡ b → (first_below p n ≡ Nothing → (j : ℕ) → j < n → p j ≡ false) → or_else f (cond b (At n) Nothing) ≡ Nothing → p j ≡ false
-      go (At i) b q r ih k = let z : ◌≡◌ {A = ℕ} 0 1 = cc in let w : ⊥ = omega arith in absurd w
-      go Nothing true q r ih k = let z : ◌≡◌ {A = ℕ} 0 1 = cc in let w : ⊥ = omega arith in absurd w
-      go Nothing false q r ih k = ⊎_elim (λ s. ap p s ∙ r) (λ l. ih q j l) (eq-or-lt_of_le (le_of_suc-le-suc h))
+      go : (f : Option ℕ) (b : Bool) → first_below p n ≡ f → p n ≡ b → (first_below p n ≡ None → (j : ℕ) → j < n → p j ≡ false) → or_else f (cond b (Some n) None) ≡ None → p j ≡ false
+      go (Some i) b q r ih k = let z : ◌≡◌ {A = ℕ} 0 1 = cc in let w : ⊥ = omega arith in absurd w
+      go None true q r ih k = let z : ◌≡◌ {A = ℕ} 0 1 = cc in let w : ⊥ = omega arith in absurd w
+      go None false q r ih k = ⊎_elim (λ s. ap p s ∙ r) (λ l. ih q j l) (eq-or-lt_of_le (le_of_suc-le-suc h))
 
   -- before what was found p holds nowhere
-  pub first_before : (n i : ℕ) → first_below p n ≡ At i → (j : ℕ) → j < i → p j ≡ false
+  pub first_before : (n i : ℕ) → first_below p n ≡ Some i → (j : ℕ) → j < i → p j ≡ false
   unfolding first_below or_else
   first_before zero i e j h = let z : ◌≡◌ {A = ℕ} 0 1 = cc in let w : ⊥ = omega arith in absurd w
   first_before (suc n) i e j h = go (first_below p n) (p n) refl refl (first_before n) e
     where
-      go : (f : Found) (b : Bool) → first_below p n ≡ f → p n ≡ b → ((i : ℕ) → first_below p n ≡ At i → (j : ℕ) → j < i → p j ≡ false) → or_else f (cond b (At n) Nothing) ≡ At i → p j ≡ false
-      go (At k) b q r ih e = let s : k ≡ i = cc in ih k q j (omega arith)
-      go Nothing true q r ih e = let s : n ≡ i = cc in first_nothing n q j (omega arith)
-      go Nothing false q r ih e = let z : ◌≡◌ {A = ℕ} 0 1 = cc in let w : ⊥ = omega arith in absurd w
+      go : (f : Option ℕ) (b : Bool) → first_below p n ≡ f → p n ≡ b → ((i : ℕ) → first_below p n ≡ Some i → (j : ℕ) → j < i → p j ≡ false) → or_else f (cond b (Some n) None) ≡ Some i → p j ≡ false
+      go (Some k) b q r ih e = let s : k ≡ i = cc in ih k q j (omega arith)
+      go None true q r ih e = let s : n ≡ i = cc in first_nothing n q j (omega arith)
+      go None false q r ih e = let z : ◌≡◌ {A = ℕ} 0 1 = cc in let w : ⊥ = omega arith in absurd w
+
+-- ---- a list's first elements: what the library's methods say of them
+
+module _ (p : ℕ → Bool) (xs : List ℕ) where
+  pub every_list : (n : ℕ) → n ≤ length xs → list_all p (take n xs) ≡ every_below (λ i. p (get_or xs i 0)) n
+  unfolding every_below
+  every_list zero h = refl
+  every_list (suc n) h =
+      rw (← add-one n) (list_all_more p xs n 0 (omega arith)) ∙ ap (λ (b : Bool). b && p (get_or xs n 0)) (every_list n (omega arith))
+
+  pub any_list : (n : ℕ) → n ≤ length xs → list_any p (take n xs) ≡ any_below (λ i. p (get_or xs i 0)) n
+  unfolding any_below
+  any_list zero h = refl
+  any_list (suc n) h =
+      rw (← add-one n) (list_any_more p xs n 0 (omega arith)) ∙ ap (λ (b : Bool). b || p (get_or xs n 0)) (any_list n (omega arith))
+
+  pub count_list : (n : ℕ) → n ≤ length xs → count_by p (take n xs) ≡ count_below (λ i. p (get_or xs i 0)) n
+  unfolding count_below
+  count_list zero h = refl
+  count_list (suc n) h =
+      (elim (p (get_or xs n 0)) as (λ b. p (get_or xs n 0) ≡ b → count_by p (take (suc n) xs) ≡ cond b (suc (count_below (λ i. p (get_or xs i 0)) n)) (count_below (λ i. p (get_or xs i 0)) n)) [
+        | true ↦ λ e. rw (← add-one n, ← add-one (count_below (λ i. p (get_or xs i 0)) n)) (count_by_more_yes p xs n 0 (omega arith) e ∙ ap (λ (m : ℕ). m + 1) (count_list n (omega arith)))
+        | false ↦ λ e. rw (← add-one n) (count_by_more_no p xs n 0 (omega arith) e ∙ count_list n (omega arith))
+      ]) refl
+
+  pub first_list : (n : ℕ) → n ≤ length xs → position p (take n xs) ≡ first_below (λ i. p (get_or xs i 0)) n
+  first_list n h = go (first_below (λ i. p (get_or xs i 0)) n) refl
+    where
+      long : length (take n xs) ≡ n
+      long = length-take-le n xs h
+
+      go : (f : Option ℕ) → first_below (λ i. p (get_or xs i 0)) n ≡ f → position p (take n xs) ≡ f
+      go (Some i) e =
+          let here = first_under (λ i. p (get_or xs i 0)) n i e in
+          let stands = position_or_len_is p (take n xs) i 0 (omega (arith, long, here.0))
+          (λ k m. ap p (get_or-take n xs k 0 (omega (arith, here.0))) ∙ first_before (λ i. p (get_or xs i 0)) n i e k m)
+          (λ m. ap p (get_or-take n xs i 0 here.0) ∙ here.1) in
+          rw (stands, long, lt-ltb i n here.0)
+      go None e =
+          let nowhere = position_or_len_is p (take n xs) n 0 (omega (arith, long))
+          (λ k m. ap p (get_or-take n xs k 0 m) ∙ first_nothing (λ i. p (get_or xs i 0)) n e k m)
+          (λ m. absurd (omega (arith, long))) in
+          rw (nowhere, long, le-ltb n n (omega arith))

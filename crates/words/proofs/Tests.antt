@@ -53,11 +53,6 @@ pub or_true : (a : Bool) → (a || true) ≡ true
 or_true true = refl
 or_true false = refl
 
--- one of two tests fails
-pub either_fails : (a b : Bool) → (not a || not b) ≡ not (a && b)
-either_fails true b = refl
-either_fails false b = refl
-
 -- a test that cannot hold
 pub refuted : (a : Bool) → (a ≡ true → ⊥) → a ≡ false
 refuted true n = absurd (n refl)

@@ -1,8 +1,6 @@
 -- The positions below a count: whether a test holds at all of them or at one, at how many, at which first, at which.
 -- Document 01 speaks of "positions below the counts" and of the first match.
-use Rattle.std.specs.Prelude.{ℕ, zero, suc, Bool, true, false, cond, ◌&&◌, ◌||◌, List, [], ◌∷◌, ◌++◌}
-use Rattle.words.specs.declared.Found.{Found}
-use Rattle.words.specs.declared.Found.TheVariants.{At, Nothing}
+use Rattle.std.specs.Prelude.{ℕ, zero, suc, Bool, true, false, cond, ◌&&◌, ◌||◌, List, [], ◌∷◌, ◌++◌, Option, Some, None}
 
 -- the positions below n, in order
 unfoldable pub positions : ℕ → List ℕ
@@ -30,11 +28,11 @@ kept_below p zero = []
 kept_below p (suc n) = cond (p n) (kept_below p n ++ (n ∷ [])) (kept_below p n)
 
 -- the first of two finds
-unfoldable pub or_else : Found → Found → Found
-or_else (At i) f = At i
-or_else Nothing f = f
+unfoldable pub or_else : Option ℕ → Option ℕ → Option ℕ
+or_else (Some i) f = Some i
+or_else None f = f
 
 -- the first position below n at which p holds
-unfoldable pub first_below : (ℕ → Bool) → ℕ → Found
-first_below p zero = Nothing
-first_below p (suc n) = or_else (first_below p n) (cond (p n) (At n) Nothing)
+unfoldable pub first_below : (ℕ → Bool) → ℕ → Option ℕ
+first_below p zero = None
+first_below p (suc n) = or_else (first_below p n) (cond (p n) (Some n) None)

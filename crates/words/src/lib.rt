@@ -1,7 +1,8 @@
 // Key words, record words and ranges of key words, with the constants of the scene table.
 #![tactic(auto)]
 
-ghost use Rattle.std.specs.Prelude.{◌≡◌, min};
+ghost use Rattle.std.specs.Prelude.{◌≡◌};
+ghost use Rattle.words.specs.Refusals.{number_of, status_of};
 ghost use Rattle.words.specs.Words.{word_of, fabric_of, endpoint_of, group_of, scene_of, key_of_record, is_valid, valid_record, within};
 
 // Status bytes that a command answers.
@@ -19,33 +20,35 @@ impl Status {
     pub const SC_NOT_FOUND: u8 = 0x8B;
 }
 
-// Faults: refusals that the host or whoever lends the memory causes, and 5, which a member causes.
-pub struct Fault;
+// What a call refuses with: Matter's status or a fault, each at its number. The host, or whoever lends the memory, causes the faults, 1 to 12,
+// but for 5, which a member causes.
+#[derive(Clone, Copy, PartialEq, Eq)]
+pub enum Refusal {
+    NoFabric = 1,
+    MembershipFailed = 2,
+    CaptureTooLong = 3,
+    ApplyFailed = 4,
+    SingleElement = 5,
+    Unsound = 6,
+    BadPair = 7,
+    BufferTooShort = 8,
+    BadImage = 9,
+    ClashingImage = 10,
+    BadFieldSets = 11,
+    MembershipsFull = 12,
+    InvalidCommand = Status::SC_INVALID_COMMAND as isize,
+    ConstraintError = Status::SC_CONSTRAINT_ERROR as isize,
+    InsufficientSpace = Status::SC_INSUFFICIENT_SPACE as isize,
+    NotFound = Status::SC_NOT_FOUND as isize,
+}
 
-impl Fault {
-    pub const NO_FABRIC: u8 = 1;
+// The number that is answered.
+impl From<Refusal> for u8 {
+    ghost from_gives = { λ refusal n. n ≡ number_of refusal };
 
-    pub const MEMBERSHIP_FAILED: u8 = 2;
-
-    pub const CAPTURE_TOO_LONG: u8 = 3;
-
-    pub const APPLY_FAILED: u8 = 4;
-
-    pub const SINGLE_ELEMENT: u8 = 5;
-
-    pub const UNSOUND: u8 = 6;
-
-    pub const BAD_PAIR: u8 = 7;
-
-    pub const BUFFER_TOO_SHORT: u8 = 8;
-
-    pub const BAD_IMAGE: u8 = 9;
-
-    pub const CLASHING_IMAGE: u8 = 10;
-
-    pub const BAD_FIELD_SETS: u8 = 11;
-
-    pub const MEMBERSHIPS_FULL: u8 = 12;
+    fn from(refusal: Refusal) -> u8 {
+        refusal as u8
+    }
 }
 
 // Scene ids that no command may name.
@@ -157,13 +160,6 @@ pub enum KeyRange {
     Group(GroupKey),
 }
 
-// The position of what was looked for, if there is one.
-#[derive(Clone, Copy)]
-pub enum Found {
-    At(usize),
-    Nothing,
-}
-
 impl SceneKey {
     // The key word.
     pub fn word(self) -> u64
@@ -203,13 +199,6 @@ impl KeyRange {
     }
 }
 
-// The smaller of two numbers.
-pub fn least(a: usize, b: usize) -> usize
-    ensures { result ≡ min a b }
-{
-    if b < a { b } else { a }
-}
-
 // The fabric of a key word: below 256 where the word is below VALID.
 pub fn fabric_of(word: u64) -> u64
     ensures { result ≡ fabric_of word }
@@ -247,4 +236,14 @@ pub fn is_valid(word: u64) -> bool
     ensures { result ≡ is_valid word }
 {
     KeyWord::VALID <= word
+}
+
+// The status of what may be refused: 0, or the refusal's number.
+pub fn status_of(answer: Result<(), Refusal>) -> u8
+    ensures { result ≡ status_of answer }
+{
+    match answer {
+        Ok(()) => Status::SUCCESS,
+        Err(refusal) => u8::from(refusal),
+    }
 }

@@ -4,11 +4,7 @@ use Rattle.state.proofs.Guard.{unsound-outcome}
 use Rattle.add_read.specs.Adding.{add_scene_read}
 use Rattle.add_read.proofs.add_scene_read.Goals as goal
 
-pub add_read_sound-requires : goal.add_read_sound-requires
-add_read_sound-requires c =
-    sym c.is_sound.ensures ∙ c.if-is_sound.true
-
 pub returns : goal.returns
 unfolding add_scene_read
 returns c =
-    unsound-outcome _ (sym c.is_sound.ensures ∙ c.if-is_sound.false) _ _ _ c.unsaved.ensures
+    unsound-outcome _ (sym c.is_sound.ensures ∙ c.if-is_sound.false) _ _ _ c.refused_by.ensures

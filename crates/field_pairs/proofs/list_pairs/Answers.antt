@@ -2,10 +2,10 @@
 use Prim.Native.Nat.{ℕ}
 use mathlib.Core.Path.{◌≡◌, sym, ◌∙◌}
 use mathlib.Core.List.{List}
-use Rattle.field_sets.specs.declared.reader.Total.TheVariants.{Counted}
+use Rattle.std.proofs.Common.{Some}
 use Rattle.field_sets.specs.Reader.{total_of, sets_in}
 use Rattle.field_pairs.specs.Listing.{listing_of}
-use Rattle.field_pairs.proofs.Laws.{list-unread, list-readable, list-short, list-fits}
+use Rattle.field_pairs.proofs.Laws.{list-unread, list-short, list-fits}
 use Rattle.field_pairs.proofs.list_pairs.Goals as goal
 
 pub returns-in_default : goal.returns-in_default
@@ -18,20 +18,13 @@ pub returns-then-pairs-n : goal.returns-then-pairs-n
 returns-then-pairs-n c =
     let bytes : List ℕ = c.args.bytes.now in
     let buffer : List ℕ = c.args.pairs.now in
-    let total : total_of (sets_in bytes) ≡ Counted c.in-Counted.n = sym c.count_pairs.ensures ∙ c.in-Counted.is in
+    let total : total_of (sets_in bytes) ≡ Some c.in-Some.n = sym c.count_pairs.ensures ∙ c.in-Some.is in
     (λ i. listing_of (c.refused-then-pairs-n.ensures i) buffer)
     ∙ list-short bytes buffer _ total c.if-pairs-n.true
-
-pub put_pairs-len-requires : goal.put_pairs-len-requires
-put_pairs-len-requires c =
-    let bytes : List ℕ = c.args.bytes.now in
-    let buffer : List ℕ = c.args.pairs.now in
-    let total : total_of (sets_in bytes) ≡ Counted c.in-Counted.n = sym c.count_pairs.ensures ∙ c.in-Counted.is in
-    list-readable bytes buffer _ total
 
 pub returns : goal.returns
 returns c =
     let bytes : List ℕ = c.args.bytes.now in
     let buffer : List ℕ = c.args.pairs.now in
-    let total : total_of (sets_in bytes) ≡ Counted c.in-Counted.n = sym c.count_pairs.ensures ∙ c.in-Counted.is in
+    let total : total_of (sets_in bytes) ≡ Some c.in-Some.n = sym c.count_pairs.ensures ∙ c.in-Some.is in
     list-fits bytes buffer _ total _ _ c.if-pairs-n.false c.put_pairs-len.ensures

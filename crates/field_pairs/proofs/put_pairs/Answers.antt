@@ -2,6 +2,7 @@
 use Prim.Native.Nat.{ℕ}
 use mathlib.Core.Path.{refl, sym, ap, subst, ◌∙◌}
 use mathlib.Core.List.{List}
+use mathlib.Core.Logic.{inl, inr}
 use Rattle.text_output.specs.Writing.{sheet, puts}
 use Rattle.field_sets.specs.declared.reader.Cursor.{Cursor}
 use Rattle.field_pairs.proofs.Rest.{rest_of, Readable, ToCluster, ToAttribute, to_cluster, to_attribute, to_end, to_refusal}
@@ -44,18 +45,10 @@ loop-c-preserved c =
       put_step _ _ _ _ c.pair_word.ensures c.put_word-n.ensures _ ∙ put_same _ _ _ (sym t.rest) ∙ c.loop-c.invariant.2,
     )
 
-pub shape_of-out-in-Done : goal.shape_of-out-in-Done
-shape_of-out-in-Done c =
-    c.loop-c.invariant.1
-
+-- what can be read is not refused
 pub returns-in-Done : goal.returns-in-Done
 returns-in-Done c =
-    put-nothing _ _ (to_end _ _ _ c.loop-c.invariant.0 (sym c.next.ensures ∙ c.in-Done.is)) ∙ c.loop-c.invariant.2
-
-pub shape_of-out-in-Refused : goal.shape_of-out-in-Refused
-shape_of-out-in-Refused c =
-    c.loop-c.invariant.1
-
-pub returns-in-Refused : goal.returns-in-Refused
-returns-in-Refused c =
-    to_refusal _ c.loop-c.cluster _ c.loop-c.invariant.0 (sym c.next.ensures ∙ c.in-Refused.is)
+    elim c.in-Done.is [
+      | inl done ↦ put-nothing _ _ (to_end _ _ _ c.loop-c.invariant.0 (sym c.next.ensures ∙ done)) ∙ c.loop-c.invariant.2
+      | inr refused ↦ to_refusal _ c.loop-c.cluster _ c.loop-c.invariant.0 (sym c.next.ensures ∙ refused)
+    ]

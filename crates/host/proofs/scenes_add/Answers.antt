@@ -3,4 +3,4 @@ use Rattle.host.proofs.scenes_add.Goals as goal
 
 pub returns : goal.returns
 returns c =
-    rw (← c.of_number.ensures) c.add_scene.ensures
+    rw (← c.from.ensures) c.add_scene.ensures

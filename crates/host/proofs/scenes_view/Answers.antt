@@ -3,4 +3,4 @@ use Rattle.host.proofs.scenes_view.Goals as goal
 
 pub returns : goal.returns
 returns c =
-    rw (← c.of_number.ensures) c.view_scene.ensures
+    rw (← c.from.ensures) c.view_scene.ensures

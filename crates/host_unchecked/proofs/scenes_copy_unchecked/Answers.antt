@@ -9,4 +9,4 @@ returns c =
     let came : Table = let a = c.args in
     table_of a.state a.keys.now a.times.now a.fields.now a.records.now in
     c.copy_scene.ensures
-    ∙ (λ i. copy_scene c.args.request (c.of_number.ensures i) (c.of_number-2.ensures i) came)
+    ∙ (λ i. copy_scene c.args.request (c.from.ensures i) (c.from-2.ensures i) came)

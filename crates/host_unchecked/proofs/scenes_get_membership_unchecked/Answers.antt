@@ -3,4 +3,4 @@ use Rattle.host_unchecked.proofs.scenes_get_membership_unchecked.Goals as goal
 
 pub returns : goal.returns
 returns c =
-    rw (← c.of_number.ensures) c.get_scene_membership.ensures
+    rw (← c.from.ensures) c.get_scene_membership.ensures

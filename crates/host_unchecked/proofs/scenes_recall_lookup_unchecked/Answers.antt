@@ -8,4 +8,4 @@ pub returns : goal.returns
 returns c =
     let came : Table = let a = c.args in
     table_of a.state a.keys.now a.times.now a.fields.now a.records.now in
-    c.recall_lookup.ensures ∙ (λ i. recall_lookup c.args.key (c.of_number.ensures i) (c.transition.ensures i) came)
+    c.recall_lookup.ensures ∙ (λ i. recall_lookup c.args.key (c.from.ensures i) (c.transition.ensures i) came)

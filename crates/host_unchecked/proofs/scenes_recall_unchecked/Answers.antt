@@ -9,4 +9,4 @@ returns c =
     let came : Table = let a = c.args in
     table_of a.state a.keys.now a.times.now a.fields.now a.records.now in
     c.recall_scene.ensures
-    ∙ (λ i. recall_scene c.args.key (c.of_number.ensures i) (c.application.ensures i) came)
+    ∙ (λ i. recall_scene c.args.key (c.from.ensures i) (c.application.ensures i) came)

@@ -3,4 +3,4 @@ use Rattle.host_unchecked.proofs.scenes_store_unchecked.Goals as goal
 
 pub returns : goal.returns
 returns c =
-    rw (← c.of_number.ensures) c.store_scene.ensures
+    rw (← c.from.ensures) c.store_scene.ensures

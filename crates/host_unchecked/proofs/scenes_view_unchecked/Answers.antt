@@ -3,4 +3,4 @@ use Rattle.host_unchecked.proofs.scenes_view_unchecked.Goals as goal
 
 pub returns : goal.returns
 returns c =
-    rw (← c.of_number.ensures) c.view_scene.ensures
+    rw (← c.from.ensures) c.view_scene.ensures

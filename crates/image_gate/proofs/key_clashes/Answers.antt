@@ -6,10 +6,6 @@ pub returns-then-is_barred : goal.returns-then-is_barred
 returns-then-is_barred c =
     rw (sym c.is_barred.ensures ∙ c.if-is_barred.true)
 
-pub returns-in_default : goal.returns-in_default
-returns-in_default c =
-    rw (sym c.is_barred.ensures ∙ c.if-is_barred.false, sym c.find.ensures ∙ c.in_default.is)
-
 pub returns : goal.returns
 returns c =
-    rw (sym c.is_barred.ensures ∙ c.if-is_barred.false, sym c.find.ensures ∙ c.in-At.is)
+    rw (sym c.is_barred.ensures ∙ c.if-is_barred.false, ← c.find.ensures) c.is_some.ensures

@@ -11,16 +11,6 @@ pub overflow_cast-fabric : goal.overflow_cast-fabric
 overflow_cast-fabric c =
     omega (arith, c.fabric_of-fabric.ensures, c.key_of_record-key.ensures)
 
-pub returns-in_default : goal.returns-in_default
-returns-in_default c =
-    rw (
-      ← c.key_of_record-key.ensures,
-      sym c.is_barred.ensures ∙ c.if-is_barred.false,
-      ← c.fabric_of-fabric.ensures,
-      ← c.endpoint_of.ensures,
-      sym c.find.ensures ∙ c.in_default.is,
-    )
-
 pub returns : goal.returns
 returns c =
     rw (
@@ -28,5 +18,5 @@ returns c =
       sym c.is_barred.ensures ∙ c.if-is_barred.false,
       ← c.fabric_of-fabric.ensures,
       ← c.endpoint_of.ensures,
-      sym c.find.ensures ∙ c.in-At.is,
-    )
+      ← c.find.ensures,
+    ) c.is_some.ensures

@@ -3,10 +3,6 @@ use mathlib.Core.Path.{sym, ◌∙◌}
 use Rattle.image_load.proofs.Loads.{load-unsound}
 use Rattle.image_load.proofs.load_image.Goals as goal
 
-pub load_sound-requires : goal.load_sound-requires
-load_sound-requires c =
-    sym c.is_sound.ensures ∙ c.if-is_sound.true
-
 pub returns : goal.returns
 returns c =
-    load-unsound _ _ (sym c.is_sound.ensures ∙ c.if-is_sound.false) _ c.unsaved.ensures
+    load-unsound _ _ (sym c.is_sound.ensures ∙ c.if-is_sound.false) _ c.refused_by.ensures

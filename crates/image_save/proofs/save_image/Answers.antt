@@ -15,4 +15,4 @@ pub returns : goal.returns
 returns c =
     let came : Table = table_of c.args.state c.args.keys.now c.args.times.now c.args.fields.now c.args.records.now in
     let buffer : List ℕ = c.args.buffer.now in
-    (λ i. saved_of (c.refused.ensures i) buffer) ∙ save-unsound buffer came (sym c.is_sound.ensures ∙ c.if-is_sound.false)
+    (λ i. saved_of (c.refused_by.ensures i) buffer) ∙ save-unsound buffer came (sym c.is_sound.ensures ∙ c.if-is_sound.false)

@@ -30,7 +30,7 @@ returns-then-buffer-image_len c =
     let came : Table = table_of c.args.state c.args.keys.now c.args.times.now c.args.fields.now c.args.records.now in
     let buffer : List ℕ = c.args.buffer.now in
     let counted : c.image_len.result ≡ length (image_of came) = c.image_len.ensures ∙ ap length (image_of_lem came) in
-    (λ i. saved_of (c.refused.ensures i) buffer) ∙ save-short buffer came c.requires _ counted c.if-buffer-image_len.true
+    (λ i. saved_of (c.refused_by.ensures i) buffer) ∙ save-short buffer came c.requires _ counted c.if-buffer-image_len.true
 
 pub put_image-len-requires : goal.put_image-len-requires
 put_image-len-requires c =

@@ -1,5 +1,5 @@
 -- `pack_all` meets its contract. Assumes nothing.
-use Rattle.notices_run.proofs.Equal.{four_words}
+use Rattle.notices_run.proofs.FourWords.{four_words}
 use Rattle.notices_run.proofs.pack_all.Goals as goal
 
 pub returns : goal.returns

@@ -1,12 +1,7 @@
--- `requests::pairs_gate` meets its contract. Assumes nothing.
-use Prim.Native.Nat.{◌≤◌, ◌-◌}
-use mathlib.Core.Path.{◌≡◌}
-use lib.ListN.{length, drop}
+-- The pairs before the loop's place are passed. Assumes nothing.
+use Rattle.std.proofs.Common.{◌≡◌, drop}
 use Rattle.requests.specs.Requests.{pairs_gate}
 use Rattle.requests.proofs.pairs_gate.Given as goal
 
-abbrev pub invariant-loop-i : goal.invariant-loop-i
-invariant-loop-i l = (l.i ≤ length l.pairs) × (pairs_gate l.pairs ≡ pairs_gate (drop l.i l.pairs))
-
-abbrev pub decreases-loop-i : goal.decreases-loop-i
-decreases-loop-i l = length l.pairs - l.i
+abbrev pub invariant-loop-pair : goal.invariant-loop-pair
+invariant-loop-pair l = pairs_gate l.fn.pairs ≡ pairs_gate (drop l.pair-index l.fn.pairs)

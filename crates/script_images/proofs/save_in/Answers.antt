@@ -1,18 +1,11 @@
 -- `script_images::save_in` meets its contract. Assumes nothing.
-use mathlib.Core.Path.{sym}
-use lib.Seq.{length-take-le}
 use Rattle.state.specs.declared.ScenesState.{ScenesState}
 use Rattle.state.specs.Table.{Table, table_of}
 use Rattle.script_lines.specs.Values.{value_at}
 use Rattle.script_answers.specs.Done.{done_of}
 use Rattle.script_answers.proofs.DoneLaws.{in_front_lem}
 use Rattle.script_images.specs.Images.{save, save_in}
-use borrow.Author.Rules.{rules}
 use Rattle.script_images.proofs.save_in.Goals as goal
-
-pub slice_bounds-save-end-2 : goal.slice_bounds-save-end-2
-slice_bounds-save-end-2 c =
-    sym (length-take-le _ _ (search rules))
 
 pub returns : goal.returns
 unfolding save_in
@@ -21,4 +14,4 @@ returns c =
     table_of state a.keys.now a.times.now a.fields.now a.records.now in
     let a = c.args in
     in_front_lem (λ b. save b (came a.state)) (value_at a.read.values 0) a.buffer.now _
-    (done_of c.save.result (came c.save.result.state)) _ c.least-n.ensures c.save.ensures
+    (done_of c.save.result (came c.save.result.state)) _ c.min-n.ensures c.save.ensures

@@ -21,4 +21,4 @@ returns c =
     table_of state a.keys.now a.times.now a.fields.now a.records.now in
     let a = c.args in
     in_front_lem (λ b. list a.read.values b (came a.state)) (value_at a.read.values 4) a.buffer.now _
-    (done_of c.list.result (came c.list.result.state)) _ c.least-n.ensures c.list.ensures
+    (done_of c.list.result (came c.list.result.state)) _ c.min-n.ensures c.list.ensures

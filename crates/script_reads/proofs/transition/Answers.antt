@@ -1,7 +1,7 @@
 -- `script_reads::transition` meets its contract. Assumes nothing.
 use mathlib.Core.Path.{ap}
 use borrow.Author.Tests.{ne_eqb}
-use Rattle.reads.specs.declared.Transition.TheVariants.{Given}
+use Rattle.std.specs.Prelude.{Some}
 use Rattle.script_reads.proofs.transition.Goals as goal
 
 pub returns-then-value-eq-STORED : goal.returns-then-value-eq-STORED
@@ -10,4 +10,4 @@ returns-then-value-eq-STORED c =
 
 pub returns : goal.returns
 returns c =
-    rw (ne_eqb _ _ c.if-value-eq-STORED.false) (ap Given c.long.ensures)
+    rw (ne_eqb _ _ c.if-value-eq-STORED.false) (ap Some c.long.ensures)

@@ -2,7 +2,8 @@
 use Prim.Native.Nat.{ℕ}
 use mathlib.Core.Path.{◌≡◌, refl, sym, subst, ◌∙◌}
 use mathlib.Core.List.{List, []}
-use mathlib.Core.Option.{get_or}
+use mathlib.Core.Logic.{inl, inr}
+use Rattle.std.proofs.Common.{unwrap_or}
 use Rattle.text_output.specs.Writing.{Sheet, sheet, puts}
 use Rattle.field_sets.specs.declared.reader.Cursor.{Cursor}
 use Rattle.field_sets.specs.Reader.{sets_in, next_item}
@@ -13,7 +14,7 @@ use Rattle.script_sets.proofs.put_each.Goals as goal
 pub loop-next-init : goal.loop-next-init
 loop-next-init c =
     let a = c.args in
-    let all : Sheet = puts (each_text (get_or (sets_in a.bytes.now) [])) (sheet a.out.now a.at) in
+    let all : Sheet = puts (each_text (unwrap_or (sets_in a.bytes.now) [])) (sheet a.out.now a.at) in
     let from : Sheet = sheet a.out.now a.at in
     (refl, subst (λ (k : Cursor). Ahead a.bytes.now k from all) (sym c.start-cursor.ensures) (begins a.bytes.now c.requires from))
 
@@ -45,22 +46,12 @@ loop-next-preserved c =
       shows_attribute bytes c.loop-next.cursor _ _ c.loop-next.invariant.1 _ _ _ (yields ∙ c.in-Attribute.is) c.put_attribute-next.ensures,
     )
 
-pub shape_of-out-in-Done : goal.shape_of-out-in-Done
-shape_of-out-in-Done c =
-    c.loop-next.invariant.0
-
+-- what can be read is not refused
 pub returns-in-Done : goal.returns-in-Done
 returns-in-Done c =
     let bytes : List ℕ = c.args.bytes.now in
     let yields : next_item bytes c.loop-next.cursor ≡ c.next.result = sym c.next.ensures in
-    shows_end bytes c.loop-next.cursor _ _ c.loop-next.invariant.1 (yields ∙ c.in-Done.is)
-
-pub shape_of-out-in-Refused : goal.shape_of-out-in-Refused
-shape_of-out-in-Refused c =
-    c.loop-next.invariant.0
-
-pub returns-in-Refused : goal.returns-in-Refused
-returns-in-Refused c =
-    let bytes : List ℕ = c.args.bytes.now in
-    let yields : next_item bytes c.loop-next.cursor ≡ c.next.result = sym c.next.ensures in
-    shows_no_refusal bytes c.loop-next.cursor _ _ c.loop-next.invariant.1 (yields ∙ c.in-Refused.is)
+    elim c.in-Done.is [
+      | inl done ↦ shows_end bytes c.loop-next.cursor _ _ c.loop-next.invariant.1 (yields ∙ done)
+      | inr refused ↦ shows_no_refusal bytes c.loop-next.cursor _ _ c.loop-next.invariant.1 (yields ∙ refused)
+    ]

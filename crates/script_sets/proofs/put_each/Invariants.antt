@@ -2,8 +2,8 @@
 use Prim.Native.Nat.{◌+◌, ◌-◌}
 use mathlib.Core.Path.{◌≡◌}
 use mathlib.Core.List.{[]}
-use mathlib.Core.Option.{get_or}
 use lib.ListN.{length}
+use Rattle.std.proofs.Common.{unwrap_or}
 use Rattle.text_output.specs.Writing.{sheet, puts}
 use Rattle.field_sets.specs.Reader.{sets_in}
 use Rattle.script_sets.specs.Texts.{each_text}
@@ -12,7 +12,7 @@ use Rattle.script_sets.proofs.put_each.Given as goal
 
 abbrev pub invariant-loop-next : goal.invariant-loop-next
 invariant-loop-next l = (length l.out ≡ length l.initial.out) ×
-    Ahead l.bytes l.cursor (sheet l.out l.next) (puts (each_text (get_or (sets_in l.bytes) [])) (sheet l.initial.out l.at))
+    Ahead l.bytes l.cursor (sheet l.out l.next) (puts (each_text (unwrap_or (sets_in l.bytes) [])) (sheet l.initial.out l.at))
 
 -- the pairs that are left, and the bytes behind the next set
 abbrev pub decreases-loop-next : goal.decreases-loop-next

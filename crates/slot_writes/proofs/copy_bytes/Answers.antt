@@ -20,18 +20,14 @@ next-copied {old} {l} {from} {to} k reached h n under inv =
 pub loop-i-init : goal.loop-i-init
 loop-i-init c =
     let a = c.args in
-    (copied_none _ _ _ (omega (arith, length_part a.fields.now a.from stride (omega arith))), omega arith)
+    copied_none _ _ _ (omega (arith, length_part a.fields.now a.from stride (omega arith)))
 
 pub loop-i-preserved : goal.loop-i-preserved
 loop-i-preserved c =
-    (next-copied _ refl (omega arith) (omega arith) (omega arith) c.loop-i.invariant.0, omega arith)
-
-pub shape_of-fields : goal.shape_of-fields
-shape_of-fields c =
-    (next-copied {from = c.args.from} max_fields (omega arith) (omega arith) (omega arith) (omega arith) c.loop-i.invariant.0).same_length
+    next-copied _ refl (omega arith) (omega arith) (omega arith) c.loop-i.invariant
 
 pub returns : goal.returns
 returns c =
     let a = c.args in
-    copied_all (next-copied max_fields (omega arith) (omega arith) (omega arith) (omega arith) c.loop-i.invariant.0)
+    copied_all (next-copied max_fields (omega arith) (omega arith) (omega arith) (omega arith) c.loop-i.invariant)
     (omega (arith, length_part a.fields.now a.from stride (omega arith)))

@@ -16,4 +16,4 @@ returns-else-to-from c =
     let a = c.args in
     let s = slots_of a.keys.now a.times.now a.fields.now in
     let e : a.to ≡ a.from = omega arith in
-    sym (ap (λ (t : ℕ). copy_slot a.from t s) e ∙ copy-same s a.from (omega arith) (omega arith) (omega arith))
+    sym (ap (λ (t : ℕ). copy_slot a.from t s) e ∙ copy-same s a.from (omega arith))

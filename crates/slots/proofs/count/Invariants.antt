@@ -1,11 +1,8 @@
--- `slots::count` meets its contract: the count is that of the positions below i. Assumes nothing.
-use Prim.Native.Nat.{◌≤◌, ◌-◌}
-use mathlib.Core.Path.{◌≡◌}
-use Rattle.slots.specs.Slots.{count_keys}
+-- `slots::count` meets its contract: the count is that of the words so far. Assumes nothing.
+use Rattle.std.proofs.Common.{◌≡◌, ◌≤◌, take}
+use Rattle.std.specs.List.{count_by}
+use Rattle.words.specs.Words.{within}
 use Rattle.slots.proofs.count.Given as goal
 
-abbrev pub invariant-loop-i : goal.invariant-loop-i
-invariant-loop-i l = (l.i ≤ l.n) × (l.count ≤ l.i) × (l.count ≡ count_keys l.keys l.i l.range)
-
-abbrev pub decreases-loop-i : goal.decreases-loop-i
-decreases-loop-i l = l.n - l.i
+abbrev pub invariant-loop-word : goal.invariant-loop-word
+invariant-loop-word l = (l.count ≤ l.word-index) × (l.count ≡ count_by (within l.range) (take l.word-index (take l.n l.keys)))

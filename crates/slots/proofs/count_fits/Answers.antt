@@ -15,7 +15,3 @@ returns-then-n-most c =
     let a = c.args in
     let h : count_keys a.keys.now a.n a.range ≤ a.most = omega (arith, count_le (λ i. within a.range (get_or a.keys.now i 0)) a.n) in
     sym (le-leb _ _ h)
-
-pub returns : goal.returns
-returns c =
-    rw c.count.ensures

@@ -6,11 +6,3 @@ use Rattle.slots.proofs.entries_sound.Goals as goal
 pub sound_blocks-from-requires : goal.sound_blocks-from-requires
 sound_blocks-from-requires c =
     record { from_le_n = omega arith; n_in_bounds = omega arith; stride_in_bounds = omega arith; from_value = every_none _ }
-
-pub sound_from-requires : goal.sound_from-requires
-sound_from-requires c =
-    record { from_le_n = c.sound_blocks-from.ensures.0; n_in_bounds = omega arith; stride_in_bounds = omega arith; from_value = c.sound_blocks-from.ensures.1 }
-
-pub returns : goal.returns
-returns c =
-    c.sound_from.ensures

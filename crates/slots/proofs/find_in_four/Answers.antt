@@ -6,23 +6,23 @@ use native.Mathlib.Omega.{arith}
 use borrow.Author.Tests.{eq-eqb, ne_eqb}
 use lib.ListN.{get_or}
 use Rattle.words.proofs.Below.{first_more, first_at}
-use Rattle.words.specs.declared.Found.TheVariants.{At, Nothing}
+use Rattle.std.specs.Prelude.{Some, None}
 use Rattle.slots.specs.Slots.{first_key}
 use Rattle.slots.proofs.find_in_four.Goals as goal
 
 -- one position: the key word stands there, or below the next it does not either
-here : (keys : List ℕ) (n i key : ℕ) → i < n → first_key keys i key ≡ Nothing → get_or keys i 0 ≡ key → At i ≡ first_key keys n key
+here : (keys : List ℕ) (n i key : ℕ) → i < n → first_key keys i key ≡ None → get_or keys i 0 ≡ key → Some i ≡ first_key keys n key
 unfolding first_key
 here keys n i key h none e = sym (first_at _ n i h none (eq-eqb _ _ e))
 
-passed : (keys : List ℕ) (i j key : ℕ) → j ≡ i + 1 → first_key keys i key ≡ Nothing → (get_or keys i 0 ≡ key → ⊥) → first_key keys j key ≡ Nothing
+passed : (keys : List ℕ) (i j key : ℕ) → j ≡ i + 1 → first_key keys i key ≡ None → (get_or keys i 0 ≡ key → ⊥) → first_key keys j key ≡ None
 unfolding first_key
 passed keys i j key next none e = rw next (first_more _ i none (ne_eqb _ _ e))
 
 -- ---- none up to each of the positions
 
 abbrev none : List ℕ → ℕ → ℕ → ℕ → Type 0
-none keys at key k = first_key keys (at + k) key ≡ Nothing
+none keys at key k = first_key keys (at + k) key ≡ None
 
 pub returns-then-keys-at : goal.returns-then-keys-at
 returns-then-keys-at c =

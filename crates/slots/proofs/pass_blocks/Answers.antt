@@ -15,18 +15,6 @@ unfolding first_key
 loop-at-init c =
     (omega arith, every_none _, first_none _)
 
-pub returns-then-in_block : goal.returns-then-in_block
-returns-then-in_block c =
-    c.loop-at.invariant
-
-pub returns-then-unsound_in_block : goal.returns-then-unsound_in_block
-returns-then-unsound_in_block c =
-    c.loop-at.invariant
-
-pub returns-then-unsound_in_block-2 : goal.returns-then-unsound_in_block-2
-returns-then-unsound_in_block-2 c =
-    c.loop-at.invariant
-
 pub loop-at-preserved : goal.loop-at-preserved
 unfolding first_key
 loop-at-preserved c =
@@ -37,7 +25,3 @@ loop-at-preserved c =
     let held = eight_any (λ k. eqb (get_or a.keys.now k 0) a.key) c.loop-at.at ∙ sym c.in_block.ensures ∙ c.if-in_block.false in
     let e : c.loop-at.at + 4 + 4 ≡ c.loop-at.at + 8 = omega arith in
     (omega arith, rw (← e) eight, first_block _ _ 8 held c.loop-at.invariant.2)
-
-pub returns : goal.returns
-returns c =
-    c.loop-at.invariant

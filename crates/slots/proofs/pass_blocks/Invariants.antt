@@ -3,12 +3,12 @@ use Prim.Native.Nat.{◌≤◌, ◌-◌}
 use mathlib.Core.Path.{◌≡◌}
 use mathlib.Core.Bool.{true}
 use Rattle.words.specs.Below.{every_below}
-use Rattle.words.specs.declared.Found.TheVariants.{Nothing}
+use Rattle.std.specs.Prelude.{None}
 use Rattle.slots.specs.Slots.{first_key, entry_sound}
 use Rattle.slots.proofs.pass_blocks.Given as goal
 
 abbrev pub invariant-loop-at : goal.invariant-loop-at
-invariant-loop-at l = (l.at ≤ l.n) × (every_below (λ k. entry_sound l.keys l.fields k) l.at ≡ true) × (first_key l.keys l.at l.key ≡ Nothing)
+invariant-loop-at l = (l.at ≤ l.n) × (every_below (λ k. entry_sound l.keys l.fields k) l.at ≡ true) × (first_key l.keys l.at l.key ≡ None)
 
 abbrev pub decreases-loop-at : goal.decreases-loop-at
 decreases-loop-at l = l.n - l.at

@@ -7,20 +7,8 @@ use Rattle.slots.specs.Slots.{entry_sound}
 use Rattle.slots.proofs.Laws.{four_any}
 use Rattle.slots.proofs.sound_blocks.Goals as goal
 
-pub loop-i-init : goal.loop-i-init
-loop-i-init c =
-    (c.requires.from_le_n, c.requires.from_value)
-
-pub returns-then-unsound_in_block : goal.returns-then-unsound_in_block
-returns-then-unsound_in_block c =
-    c.loop-i.invariant
-
 pub loop-i-preserved : goal.loop-i-preserved
 loop-i-preserved c =
     let a = c.args in
     let none = four_any (λ i. not (entry_sound a.keys.now a.fields.now i)) c.loop-i.i ∙ sym c.unsound_in_block.ensures ∙ c.if-unsound_in_block.false in
     (omega arith, every_block _ _ 4 none c.loop-i.invariant.1)
-
-pub returns : goal.returns
-returns c =
-    c.loop-i.invariant

@@ -4,4 +4,4 @@ use Rattle.tlv.proofs.Heads.{element_on}
 use Rattle.tlv_rows.proofs.elements.Goals as goal
 
 pub loop-i-smaller : goal.loop-i-smaller
-loop-i-smaller g c = omega (arith, element_on _ _ _ (sym c.element_at.ensures ∙ c.in-Whole.is))
+loop-i-smaller g c = omega (arith, element_on _ _ _ (sym c.element_at.ensures ∙ c.in-Some.is))

@@ -33,11 +33,11 @@ returns-then-is_sound c =
     (λ source. copy_scene a.c source (member_of (target_group a.c) held) came)
     (source_group a.c)
     (sym c.is_sound.ensures ∙ c.if-is_sound.true)
-    c.source_group.ensures
+    c.group_key.ensures
     c.member-source.ensures
     (c.copy_scene.ensures
     ∙ ap (λ (target : Membership). copy_scene a.c c.member-source.result target came)
-    (c.member-target.ensures ∙ ap (λ (k : GroupKey). member_of k held) c.target_group.ensures))
+    (c.member-target.ensures ∙ ap (λ (k : GroupKey). member_of k held) c.group_key-then-is_sound.ensures))
 
 pub returns : goal.returns
 unfolding copy_asking
@@ -46,4 +46,4 @@ returns c =
     table_of a.self.state a.keys.now a.times.now a.fields.now a.records.now in
     let held : Groups = let a = c.args in
     groups_of a.self.groups a.words.now in
-    unsound-asked held (sym c.is_sound.ensures ∙ c.if-is_sound.false) came _ _ c.unsaved.ensures
+    unsound-asked held (sym c.is_sound.ensures ∙ c.if-is_sound.false) came _ _ c.refused_by.ensures

@@ -38,5 +38,5 @@ returns c =
     table_of a.self.state a.keys.now a.times.now a.fields.now a.records.now in
     let held : Groups = let a = c.args in
     groups_of a.self.groups a.words.now in
-    ap (λ (r : ListRead). listed_of r c.args.ids.now) c.refused.ensures
+    ap (λ (r : ListRead). listed_of r c.args.ids.now) c.refused_by.ensures
     ∙ asks-unsound held (sym c.is_sound.ensures ∙ c.if-is_sound.false) (unlisted c.args.ids.now came) _

@@ -1,7 +1,8 @@
 -- `AskingHandler::leave` meets its contract: 6 where the memberships or the table are not sound, then what its gate refuses, then a remove
 -- all that is told yes, with every match gone. Assumes nothing.
-use mathlib.Core.Path.{◌≡◌, sym, ap, ◌∙◌}
+use mathlib.Core.Path.{refl, ◌≡◌, sym, ap, ◌∙◌}
 use mathlib.Core.Bool.{true}
+use Rattle.words.proofs.Refusals.{refusal-number}
 use Rattle.state.specs.Table.{Table, table_of}
 use Rattle.state.specs.Sound.{sound}
 use Rattle.groups.specs.Groups.{Groups, groups_of, groups_sound}
@@ -29,23 +30,23 @@ returns-then-not-is_sound-2 c =
     let unsound = sym c.is_sound-2.ensures ∙ c.if-not-is_sound-2.true in
     leaves-unsound held came sound-held c.args.key unsound _ c.refused-then-not-is_sound-2.ensures
 
-pub leave_gate-gate-requires : goal.leave_gate-gate-requires
-leave_gate-gate-requires c =
+pub leave_gate-requires : goal.leave_gate-requires
+leave_gate-requires c =
     let held : Groups = let a = c.args in
     groups_of a.self.groups a.words.now in
     let sound-held : groups_sound held ≡ true = sym c.is_sound.ensures ∙ c.if-not-is_sound.false in
     groups_fit _ sound-held
 
-pub returns-then-gate-ne-SUCCESS : goal.returns-then-gate-ne-SUCCESS
-returns-then-gate-ne-SUCCESS c =
+pub returns-in-Err : goal.returns-in-Err
+returns-in-Err c =
     let came : Table = let a = c.args in
     table_of a.self.state a.keys.now a.times.now a.fields.now a.records.now in
     let held : Groups = let a = c.args in
     groups_of a.self.groups a.words.now in
     let sound-held : groups_sound held ≡ true = sym c.is_sound.ensures ∙ c.if-not-is_sound.false in
     let sound-came : sound came ≡ true = sym c.is_sound-2.ensures ∙ c.if-not-is_sound-2.false in
-    leaves-refused held came sound-held c.args.key sound-came _ c.leave_gate-gate.ensures c.if-gate-ne-SUCCESS.true _
-    c.refused-then-gate-ne-SUCCESS.ensures
+    leaves-refused held came sound-held c.args.key sound-came _ c.in-Err.ensures (refusal-number _) _
+    c.refused-in-Err.ensures
 
 pub remove_all_scenes-done-requires : goal.remove_all_scenes-done-requires
 remove_all_scenes-done-requires c =
@@ -70,6 +71,6 @@ returns c =
     let sound-held : groups_sound held ≡ true = sym c.is_sound.ensures ∙ c.if-not-is_sound.false in
     let sound-came : sound came ≡ true = sym c.is_sound-2.ensures ∙ c.if-not-is_sound-2.false in
     ap (both_in _ _ _) c.ended.ensures
-    ∙ leaves held came sound-held c.args.key sound-came _ c.leave_gate-gate.ensures c.if-gate-ne-SUCCESS.false _ _
+    ∙ leaves held came sound-held c.args.key sound-came _ c.in_default.ensures refl _ _
     c.remove_all_scenes-done.ensures
     c.retain.ensures

@@ -5,4 +5,4 @@ use Rattle.asking.proofs.AskingHandler.refused.Goals as goal
 
 pub returns : goal.returns
 returns c =
-    c.ended.ensures ∙ ap (ended_of c.args.self.groups) c.unsaved.ensures
+    c.ended.ensures ∙ ap (ended_of c.args.self.groups) c.refused_by.ensures

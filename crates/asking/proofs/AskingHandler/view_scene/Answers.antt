@@ -37,4 +37,4 @@ returns c =
     table_of a.self.state a.keys.now a.times.now a.fields.now a.records.now in
     let held : Groups = let a = c.args in
     groups_of a.self.groups a.words.now in
-    c.refused.ensures ∙ asks-unsound held (sym c.is_sound.ensures ∙ c.if-is_sound.false) (unread came) _
+    c.refused_by.ensures ∙ asks-unsound held (sym c.is_sound.ensures ∙ c.if-is_sound.false) (unread came) _

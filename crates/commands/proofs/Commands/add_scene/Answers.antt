@@ -1,8 +1,9 @@
 -- `Commands::add_scene` meets its contract. Assumes nothing.
-use mathlib.Core.Path.{ap, ◌∙◌}
+use mathlib.Core.Path.{refl, ap, ◌∙◌}
 use native.Mathlib.Omega.{arith}
 use lib.ListN.{length}
 use Rattle.words.specs.Constants.{max_fields}
+use Rattle.words.proofs.Refusals.{refusal-number}
 use Rattle.requests.specs.Requests.{add_gate}
 use Rattle.requests.proofs.Passed.{add-passed}
 use Rattle.state.specs.Table.{Table, table_of}
@@ -12,19 +13,19 @@ use Rattle.state.proofs.Changes.{found-scene}
 use Rattle.commands.specs.Commands.{add_scene}
 use Rattle.commands.proofs.Commands.add_scene.Goals as goal
 
-pub returns-then-gate-ne-SUCCESS : goal.returns-then-gate-ne-SUCCESS
+pub returns-in-Err : goal.returns-in-Err
 unfolding add_scene
-returns-then-gate-ne-SUCCESS c =
+returns-in-Err c =
     let came : Table = let a = c.args in
     table_of a.self.state a.keys.now a.times.now a.fields.now a.records.now in
-    refuses-outcome came c.requires _ _ c.add_gate-gate.ensures _ _ c.unsaved.ensures c.if-gate-ne-SUCCESS.true
+    refuses-outcome came c.requires _ _ c.in-Err.ensures _ _ c.refused_by.ensures (refusal-number _)
 
 pub find-found-requires : goal.find-found-requires
 find-found-requires c =
     let came : Table = let a = c.args in
     table_of a.self.state a.keys.now a.times.now a.fields.now a.records.now in
     let admitted : (let a = c.args in
-    Admitted came (add_gate a.key a.time a.member a.pairs.now max_fields (length a.ext.now))) = admits _ c.requires _ _ c.add_gate-gate.ensures c.if-gate-ne-SUCCESS.false in
+    Admitted came (add_gate a.key a.time a.member a.pairs.now max_fields (length a.ext.now))) = admits _ c.requires _ _ c.in_default.ensures refl in
     let h = admitted.room in
     omega arith
 
@@ -33,7 +34,7 @@ place-place-requires c =
     let came : Table = let a = c.args in
     table_of a.self.state a.keys.now a.times.now a.fields.now a.records.now in
     let admitted : (let a = c.args in
-    Admitted came (add_gate a.key a.time a.member a.pairs.now max_fields (length a.ext.now))) = admits _ c.requires _ _ c.add_gate-gate.ensures c.if-gate-ne-SUCCESS.false in
+    Admitted came (add_gate a.key a.time a.member a.pairs.now max_fields (length a.ext.now))) = admits _ c.requires _ _ c.in_default.ensures refl in
     let h = admitted.room in
     omega arith
 
@@ -42,7 +43,7 @@ upsert_scene-requires c =
     let came : Table = let a = c.args in
     table_of a.self.state a.keys.now a.times.now a.fields.now a.records.now in
     let admitted : (let a = c.args in
-    Admitted came (add_gate a.key a.time a.member a.pairs.now max_fields (length a.ext.now))) = admits _ c.requires _ _ c.add_gate-gate.ensures c.if-gate-ne-SUCCESS.false in
+    Admitted came (add_gate a.key a.time a.member a.pairs.now max_fields (length a.ext.now))) = admits _ c.requires _ _ c.in_default.ensures refl in
     let h = admitted in
     let found = found-scene _ came _ _ c.word.ensures c.find-found.ensures in
     record { room = h.room; place_value = c.place-place.ensures ∙ ap (place_for _ _ _) found; ext_len_bound = (add-passed _ _ _ _ _ _ h.asked).1 }
@@ -53,5 +54,5 @@ returns c =
     let came : Table = let a = c.args in
     table_of a.self.state a.keys.now a.times.now a.fields.now a.records.now in
     let admitted : (let a = c.args in
-    Admitted came (add_gate a.key a.time a.member a.pairs.now max_fields (length a.ext.now))) = admits _ c.requires _ _ c.add_gate-gate.ensures c.if-gate-ne-SUCCESS.false in
+    Admitted came (add_gate a.key a.time a.member a.pairs.now max_fields (length a.ext.now))) = admits _ c.requires _ _ c.in_default.ensures refl in
     c.upsert_scene.ensures ∙ admitted.answers _ _

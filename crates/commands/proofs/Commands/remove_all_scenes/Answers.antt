@@ -1,10 +1,11 @@
 -- `Commands::remove_all_scenes` meets its contract. Assumes nothing.
-use mathlib.Core.Path.{◌≡◌, ap, ◌∙◌}
+use mathlib.Core.Path.{refl, ◌≡◌, ap, ◌∙◌}
 use mathlib.Core.Bool.{true}
 use native.Mathlib.Omega.{arith}
 use Rattle.words.specs.Constants.{success}
 use Rattle.words.specs.Words.{group_keys}
 use Rattle.records.specs.declared.Scope.TheVariants.{Group}
+use Rattle.words.proofs.Refusals.{refusal-number}
 use Rattle.requests.specs.Requests.{group_gate}
 use Rattle.state.specs.Table.{Table, table_of, with_entries}
 use Rattle.state.specs.Current.{invalidate_current}
@@ -16,19 +17,19 @@ use Rattle.commands.specs.Commands.{remove_all_scenes}
 use Rattle.commands.proofs.Laws.{nothing_went, something_went}
 use Rattle.commands.proofs.Commands.remove_all_scenes.Goals as goal
 
-pub returns-then-gate-ne-SUCCESS : goal.returns-then-gate-ne-SUCCESS
+pub returns-in-Err : goal.returns-in-Err
 unfolding remove_all_scenes
-returns-then-gate-ne-SUCCESS c =
+returns-in-Err c =
     let came : Table = let a = c.args in
     table_of a.self.state a.keys.now a.times.now a.fields.now a.records.now in
-    refuses-outcome came c.requires _ _ c.group_gate-gate.ensures _ _ c.unsaved.ensures c.if-gate-ne-SUCCESS.true
+    refuses-outcome came c.requires _ _ c.in-Err.ensures _ _ c.refused_by.ensures (refusal-number _)
 
 pub retain-left-requires : goal.retain-left-requires
 retain-left-requires c =
     let came : Table = let a = c.args in
     table_of a.self.state a.keys.now a.times.now a.fields.now a.records.now in
     let admitted : (let a = c.args in
-    Admitted came (group_gate a.key a.member)) = admits _ c.requires _ _ c.group_gate-gate.ensures c.if-gate-ne-SUCCESS.false in
+    Admitted came (group_gate a.key a.member)) = admits _ c.requires _ _ c.in_default.ensures refl in
     let h = admitted.room in
     record { entries_in_bounds = omega arith; entries_in_bounds_2 = omega arith; stride_in_bounds = omega arith }
 
@@ -39,9 +40,9 @@ returns-then-left-before c =
     table_of a.self.state a.keys.now a.times.now a.fields.now a.records.now in
     let left : Table = table_of c.retain-left.result c.retain-left.new.keys c.retain-left.new.times c.retain-left.new.fields came.records in
     let admitted : (let a = c.args in
-    Admitted came (group_gate a.key a.member)) = admits _ c.requires _ _ c.group_gate-gate.ensures c.if-gate-ne-SUCCESS.false in
+    Admitted came (group_gate a.key a.member)) = admits _ c.requires _ _ c.in_default.ensures refl in
     let left_by : (left ≡ with_entries (retain_outside (group_keys c.args.key.fabric c.args.key.endpoint c.args.key.group)) came) = retained_table came _ _ _ _ _ c.retain-left.ensures in
-    ap (result_in left.slots left.records) c.unsaved-then-left-before.ensures
+    ap (result_in left.slots left.records) c.unsaved.ensures
     ∙ nothing_went _ came _ _ left_by c.if-left-before.true
     ∙ admitted.answers _ _
 
@@ -50,7 +51,7 @@ invalidate_current-requires c =
     let came : Table = let a = c.args in
     table_of a.self.state a.keys.now a.times.now a.fields.now a.records.now in
     let admitted : (let a = c.args in
-    Admitted came (group_gate a.key a.member)) = admits _ c.requires _ _ c.group_gate-gate.ensures c.if-gate-ne-SUCCESS.false in
+    Admitted came (group_gate a.key a.member)) = admits _ c.requires _ _ c.in_default.ensures refl in
     let h = admitted.room in
     omega (arith, retained_recorded came _ _ _ _ _ c.retain-left.ensures, h.recorded, h.records)
 
@@ -61,8 +62,9 @@ returns c =
     table_of a.self.state a.keys.now a.times.now a.fields.now a.records.now in
     let left : Table = table_of c.retain-left.result c.retain-left.new.keys c.retain-left.new.times c.retain-left.new.fields came.records in
     let admitted : (let a = c.args in
-    Admitted came (group_gate a.key a.member)) = admits _ c.requires _ _ c.group_gate-gate.ensures c.if-gate-ne-SUCCESS.false in
+    Admitted came (group_gate a.key a.member)) = admits _ c.requires _ _ c.in_default.ensures refl in
     let left_by : (left ≡ with_entries (retain_outside (group_keys c.args.key.fabric c.args.key.endpoint c.args.key.group)) came) = retained_table came _ _ _ _ _ c.retain-left.ensures in
-    ap (result_of success true) (changed_current left (invalidate_current (Group c.args.key)) _ _ c.invalidate_current.ensures)
+    ap (result_in _ _) c.saved.ensures
+    ∙ ap (result_of success true) (changed_current left (invalidate_current (Group c.args.key)) _ _ c.invalidate_current.ensures)
     ∙ something_went _ came _ _ left_by c.if-left-before.false
     ∙ admitted.answers _ _

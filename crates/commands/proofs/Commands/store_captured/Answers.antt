@@ -3,11 +3,9 @@ use mathlib.Core.Path.{◌≡◌, refl, ap, ◌∙◌}
 use mathlib.Core.Bool.{true, false}
 use mathlib.Core.List.{[], ◌∷◌, ◌++◌}
 use native.Mathlib.Omega.{arith}
-use lib.ListN.{length, length-append}
 use Rattle.words.specs.Constants.{success, end_of_container}
-use Rattle.words.specs.declared.Found.{Found}
+use Rattle.std.specs.Prelude.{Option, ℕ}
 use Rattle.state.specs.Table.{Table, table_of, with_current}
-use Rattle.state.specs.Capacity.{place_for}
 use Rattle.state.specs.Current.{remember_current}
 use Rattle.state.specs.Change.{find_scene, Upserted, upserted_of, upsert}
 use Rattle.state.specs.Answer.{Result, result_of}
@@ -18,15 +16,6 @@ use Rattle.commands.specs.Counted.{keys_compared, counted_of, counted}
 use Rattle.commands.proofs.Laws.{upserted_prior, not_stored, was_stored}
 use Rattle.commands.proofs.Counting.{counted_in, counts_none, counts-compared, compared-within}
 use Rattle.commands.proofs.Commands.store_captured.Goals as goal
-
-pub slice_bounds-upsert_scene-end : goal.slice_bounds-upsert_scene-end
-slice_bounds-upsert_scene-end c =
-    let captured-length : c.end_capture-len.result ≡ length (c.args.captured.now ++ (end_of_container ∷ [])) = omega (arith, c.end_capture-len.ensures.0, length-append c.args.captured.now (end_of_container ∷ [])) in
-    omega (arith, captured-length, ap length c.end_capture-len.ensures.1)
-
-pub upsert_scene-done-requires : goal.upsert_scene-done-requires
-upsert_scene-done-requires c =
-    record { room = c.requires.room; place_value = c.place-place.ensures ∙ ap (place_for _ _ _) c.requires.found_value; ext_len_bound = omega (arith, c.requires.captured_len_bound, ap length c.end_capture-len.ensures.1, length-append c.args.captured.now (end_of_container ∷ [])) }
 
 pub returns-then-status-ne-SUCCESS : goal.returns-then-status-ne-SUCCESS
 unfolding store_captured
@@ -76,7 +65,7 @@ returns c =
     c.prior_time-time.ensures c.requires.found_value c.end_capture-len.ensures.1 in
     let t = came in
     let remembered = changed_current after.table (remember_current c.args.key) _ _ c.remember_current.ensures in
-    let compared = c.keys_compared.ensures ∙ ap (λ (f : Found). keys_compared f t.state.entries) c.requires.found_value in
+    let compared = c.keys_compared.ensures ∙ ap (λ (f : Option ℕ). keys_compared f t.state.entries) c.requires.found_value in
     (λ i. counted_of (result_of success true (remembered i)) (compared i))
     ∙ counts-compared c.args.key t (result_of success true (with_current (remember_current c.args.key) after.table)) refl
     ∙ ap (counted c.args.key t) (was_stored c.args.key after c.if-status-ne-SUCCESS.false ∙ ap (stored c.args.key) told)

@@ -1,7 +1,9 @@
 -- `Commands::store_found` meets its contract. Assumes nothing.
+use mathlib.Core.Path.{refl}
 use native.Mathlib.Omega.{arith}
 use lib.ListN.{length}
 use Rattle.words.specs.Constants.{max_fields}
+use Rattle.words.proofs.Refusals.{refusal-number}
 use Rattle.requests.specs.Requests.{store_gate}
 use Rattle.requests.proofs.Passed.{store-passed}
 use Rattle.state.specs.Table.{Table, table_of}
@@ -11,19 +13,19 @@ use Rattle.commands.specs.Counted.{store_counted}
 use Rattle.commands.proofs.Counting.{counts-passed, counts-refused}
 use Rattle.commands.proofs.Commands.store_found.Goals as goal
 
-pub returns-then-gate-ne-SUCCESS : goal.returns-then-gate-ne-SUCCESS
+pub returns-in-Err : goal.returns-in-Err
 unfolding store_scene store_counted
-returns-then-gate-ne-SUCCESS c =
+returns-in-Err c =
     let came : Table = let a = c.args in
     table_of a.self.state a.keys.now a.times.now a.fields.now a.records.now in
-    counts-refused c.args.key came _ _ _ c.requires.records_value _ c.store_gate-gate.ensures c.refused.ensures c.if-gate-ne-SUCCESS.true
+    counts-refused c.args.key came _ _ _ c.requires.records_value _ c.in-Err.ensures c.refused_by.ensures (refusal-number _)
 
 pub store_captured-requires : goal.store_captured-requires
 store_captured-requires c =
     let came : Table = let a = c.args in
     table_of a.self.state a.keys.now a.times.now a.fields.now a.records.now in
     let admitted : (let a = c.args in
-    Admitted came (store_gate a.key a.member max_fields (length a.captured.now))) = admits _ c.requires.records_value _ _ c.store_gate-gate.ensures c.if-gate-ne-SUCCESS.false in
+    Admitted came (store_gate a.key a.member max_fields (length a.captured.now))) = admits _ c.requires.records_value _ _ c.in_default.ensures refl in
     let h = admitted in
     record { room = h.room; found_value = c.requires.found_value; captured_len_bound = omega (arith, (store-passed _ _ _ _ h.asked).1) }
 
@@ -33,5 +35,5 @@ returns c =
     let came : Table = let a = c.args in
     table_of a.self.state a.keys.now a.times.now a.fields.now a.records.now in
     let admitted : (let a = c.args in
-    Admitted came (store_gate a.key a.member max_fields (length a.captured.now))) = admits _ c.requires.records_value _ _ c.store_gate-gate.ensures c.if-gate-ne-SUCCESS.false in
+    Admitted came (store_gate a.key a.member max_fields (length a.captured.now))) = admits _ c.requires.records_value _ _ c.in_default.ensures refl in
     counts-passed c.args.key came _ _ _ admitted c.store_captured.ensures

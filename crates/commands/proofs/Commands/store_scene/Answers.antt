@@ -2,7 +2,6 @@
 use native.Mathlib.Omega.{arith}
 use Rattle.state.specs.Table.{Table, table_of}
 use Rattle.state.proofs.Laws.{sound-room}
-use Rattle.state.proofs.Changes.{found-scene}
 use Rattle.commands.proofs.Commands.store_scene.Goals as goal
 
 pub find-found-requires : goal.find-found-requires
@@ -11,9 +10,3 @@ find-found-requires c =
     table_of a.self.state a.keys.now a.times.now a.fields.now a.records.now in
     let h = sound-room came c.requires in
     omega arith
-
-pub store_found-requires : goal.store_found-requires
-store_found-requires c =
-    let came : Table = let a = c.args in
-    table_of a.self.state a.keys.now a.times.now a.fields.now a.records.now in
-    record { records_value = c.requires; found_value = found-scene _ came _ _ c.word.ensures c.find-found.ensures }

@@ -32,7 +32,7 @@ returns-in_default c =
 pub put_copy-requires-2 : goal.put_copy-requires-2
 put_copy-requires-2 c =
     let a = c.args in
-    let under = found_under a.keys.now a.self.state.entries _ _ (sym c.find.ensures ∙ c.in-At.is) in
+    let under = found_under a.keys.now a.self.state.entries _ _ (sym c.find.ensures ∙ c.in-Some.is) in
     let size = entry_length_lem c.requires.entry_room a.at c.requires.at_lt_entries in
     record { to_in_bounds = omega arith; from_in_bounds = omega arith; to_in_bounds_2 = omega arith; stride_in_bounds = omega arith; stride_in_bounds_2 = omega arith; from_bound = omega arith }
 
@@ -41,4 +41,4 @@ returns c =
     let came : Entries = let a = c.args in
     entries_of a.self.state a.keys.now a.times.now a.fields.now in
     copy-known c.args.at c.args.key came
-    c.word-word.ensures c.find.ensures {s = slots_of c.put_copy-2.new.keys c.put_copy-2.new.times c.put_copy-2.new.fields} c.in-At.is c.put_copy-2.ensures
+    c.word-word.ensures c.find.ensures {s = slots_of c.put_copy-2.new.keys c.put_copy-2.new.times c.put_copy-2.new.fields} c.in-Some.is c.put_copy-2.ensures

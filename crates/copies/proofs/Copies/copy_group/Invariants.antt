@@ -9,7 +9,7 @@ use Rattle.words.specs.Constants.{success}
 use Rattle.words.specs.Words.{within, group_keys, scene_of}
 use Rattle.words.specs.declared.GroupKey.{GroupKey}
 use Rattle.words.specs.declared.KeyRange.{KeyRange}
-use Rattle.slots.proofs.View.{SameLengths}
+use Rattle.words.specs.Refusals.{status_of}
 use Rattle.state.specs.Table.{Entries, entries_of, EntryRoom}
 use Rattle.copies.specs.Copy.{Copied, copy_entry, key_in, copy_walk}
 use Rattle.copies.proofs.Laws.{Kept, copy-kept, walk_skip, walk_stop, walk_step}
@@ -25,19 +25,15 @@ named to i word e q = rw q
 
 -- e₀, s₀ and e, s are the entries and the status at the start and at turn i
 pub record Turn (to : GroupKey) (n : ℕ) (r : KeyRange) (e₀ : Entries) (s₀ : ℕ) (e : Entries) (s i : ℕ) : Type 0 where
-  pub reached : i ≤ n
   pub room : EntryRoom e
   pub entries : n ≤ e.state.entries
-  pub lengths : SameLengths e.slots e₀.slots
   pub walk : (from : GroupKey) → r ≡ keys_of from → copy_walk from to (n - i) i s e ≡ copy_walk from to n 0 s₀ e₀
 
 module _ {to : GroupKey} {n : ℕ} {r : KeyRange} {e₀ : Entries} {s₀ : ℕ} {e : Entries} {s i : ℕ} (t : Turn to n r e₀ s₀ e s i) (h : i < n) where
   pub skip : within r (get_or e.slots.keys i 0) ≡ false → Turn to n r e₀ s₀ e s (i + 1)
   skip q = record {
-    reached = omega arith;
     room = t.room;
     entries = t.entries;
-    lengths = t.lengths;
     walk = λ from x. sym (walk_skip from to n i s e h (ap (λ (k : KeyRange). within k (get_or e.slots.keys i 0)) (sym x) ∙ q)) ∙ t.walk from x;
   }
 
@@ -46,12 +42,10 @@ module _ {to : GroupKey} {n : ℕ} {r : KeyRange} {e₀ : Entries} {s₀ : ℕ} 
     pub kept : Kept e o.entries
     kept = subst⁻¹ (λ (u : Copied). Kept e u.entries) w (copy-kept i (key_in to (get_or e.slots.keys i 0)) e t.room (omega arith))
 
-    pub step : o.status ≡ success → SameLengths o.entries.slots e.slots → Turn to n r e₀ s₀ o.entries o.status (i + 1)
-    step z l = record {
-      reached = omega arith;
+    pub step : o.status ≡ success → Turn to n r e₀ s₀ o.entries o.status (i + 1)
+    step z = record {
       room = kept.room;
       entries = omega (arith, kept.entries);
-      lengths = record { keys = l.keys ∙ t.lengths.keys; times = l.times ∙ t.lengths.times; fields = l.fields ∙ t.lengths.fields };
       walk = λ from x.
           sym (walk_step from to n i s e o h (ap (λ (k : KeyRange). within k (get_or e.slots.keys i 0)) (sym x) ∙ q) w z) ∙ t.walk from x;
     }
@@ -61,7 +55,6 @@ module _ {to : GroupKey} {n : ℕ} {r : KeyRange} {e₀ : Entries} {s₀ : ℕ} 
         sym (walk_stop from to n i s e o h (ap (λ (k : KeyRange). within k (get_or e.slots.keys i 0)) (sym x) ∙ q) w z) ∙ t.walk from x
 
 abbrev pub invariant-loop-i : goal.invariant-loop-i
-invariant-loop-i l = Turn l.to l.n l.range (entries_of l.initial.state l.initial.keys l.initial.times l.initial.fields) l.initial.status (entries_of l.state l.keys l.times l.fields) l.status l.i
-
-abbrev pub decreases-loop-i : goal.decreases-loop-i
-decreases-loop-i l = l.n - l.i
+invariant-loop-i l =
+    Turn l.to l.n l.range (entries_of l.initial.state l.initial.keys l.initial.times l.initial.fields) (status_of l.initial.answer)
+    (entries_of l.state l.keys l.times l.fields) (status_of l.answer) l.i

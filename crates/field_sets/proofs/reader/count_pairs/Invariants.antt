@@ -7,8 +7,8 @@ use Rattle.field_sets.proofs.ReaderLaws.{total_from}
 use Rattle.field_sets.proofs.reader.count_pairs.Given as goal
 
 -- there are no more pairs than bytes in front
-abbrev pub invariant-loop-count : goal.invariant-loop-count
-invariant-loop-count l = (l.total ≤ l.at) × (l.at ≤ length l.bytes) × (total_from l.bytes l.total l.at ≡ total_of (sets_in l.bytes))
+abbrev pub invariant-loop-set : goal.invariant-loop-set
+invariant-loop-set l = (l.total ≤ l.at) × (l.at ≤ length l.bytes) × (total_from l.bytes l.total l.at ≡ total_of (sets_in l.bytes))
 
-abbrev pub decreases-loop-count : goal.decreases-loop-count
-decreases-loop-count l = length l.bytes - l.at
+abbrev pub decreases-loop-set : goal.decreases-loop-set
+decreases-loop-set l = length l.bytes - l.at

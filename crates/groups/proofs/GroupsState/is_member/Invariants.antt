@@ -1,13 +1,7 @@
--- `GroupsState::is_member` meets its contract: `any` says whether one of the words below i is the wanted one. Assumes nothing.
-use Prim.Native.Nat.{◌≤◌, ◌-◌}
-use mathlib.Core.Path.{◌≡◌}
-use lib.Dec.{eqb}
-use lib.ListN.{get_or}
-use Rattle.words.specs.Below.{any_below}
+-- `GroupsState::is_member` meets its contract: `any` says whether one of the words so far is the wanted one. Assumes nothing.
+use Rattle.std.proofs.Common.{◌≡◌, take, eqb}
+use Rattle.std.specs.List.{list_any}
 use Rattle.groups.proofs.GroupsState.is_member.Given as goal
 
-abbrev pub invariant-loop-i : goal.invariant-loop-i
-invariant-loop-i l = (l.i ≤ l.self.held) × (l.any ≡ any_below (λ k. eqb (get_or l.words k 0) l.wanted) l.i)
-
-abbrev pub decreases-loop-i : goal.decreases-loop-i
-decreases-loop-i l = l.self.held - l.i
+abbrev pub invariant-loop-word : goal.invariant-loop-word
+invariant-loop-word l = l.any ≡ list_any (λ word. eqb word l.wanted) (take l.word-index l.word-items)

@@ -2,19 +2,19 @@
 use Prim.Native.Nat.{◌≤◌}
 use mathlib.Core.Path.{◌≡◌, ap, ◌∙◌}
 use native.Mathlib.Omega.{arith}
-use lib.ListN.{length, get_or}
+use lib.ListN.{get_or}
 use Rattle.words.specs.Constants.{max_fields}
 use Rattle.slots.specs.Slots.{Slots, slots_of, length_at}
 use Rattle.slots.proofs.View.{lengths_at}
 use Rattle.image_writer.specs.Image.{entry_length}
-use Rattle.image_writer.proofs.Firsts.{entries_up_to, entries_none, entries_more}
+use Rattle.image_writer.proofs.Firsts.{entries_none, entries_more}
 use Rattle.image_writer.proofs.Lengths.{none_counted, one_counted, entry_at_length, entry_le}
 use Rattle.image_writer.proofs.sizes.entries_len.Goals as goal
 
 pub loop-i-init : goal.loop-i-init
 loop-i-init c =
     let a = c.args in
-    (omega arith, none_counted _ (entries_none (slots_of a.keys.now a.times.now a.fields.now)))
+    none_counted _ (entries_none (slots_of a.keys.now a.times.now a.fields.now))
 
 pub entry_len-len-requires : goal.entry_len-len-requires
 entry_len-len-requires c =
@@ -32,7 +32,7 @@ overflow_add-len c =
     c.entry_len-len.ensures ∙ ap (entry_length (get_or s.keys c.loop-i.i 0) (get_or s.times c.loop-i.i 0)) c.length_at.ensures in
     let small : c.entry_len-len.result ≤ 200 = let s = came in
     omega (arith, counted, entry_le (get_or s.keys c.loop-i.i 0) (get_or s.times c.loop-i.i 0) (length_at s.fields c.loop-i.i) short) in
-    omega (arith, small, c.loop-i.invariant.1.under)
+    omega (arith, small, c.loop-i.invariant.under)
 
 pub loop-i-preserved : goal.loop-i-preserved
 loop-i-preserved c =
@@ -43,16 +43,5 @@ loop-i-preserved c =
     c.entry_len-len.ensures ∙ ap (entry_length (get_or s.keys c.loop-i.i 0) (get_or s.times c.loop-i.i 0)) c.length_at.ensures in
     let small : c.entry_len-len.result ≤ 200 = let s = came in
     omega (arith, counted, entry_le (get_or s.keys c.loop-i.i 0) (get_or s.times c.loop-i.i 0) (length_at s.fields c.loop-i.i) short) in
-    let s = came in (
-      omega arith,
-      one_counted _ _ _ _ _ _ c.loop-i.invariant.1 (entries_more s c.loop-i.i)
-          (counted ∙ entry_at_length s c.loop-i.i (omega arith) short)
-          small,
-    )
-
-pub returns : goal.returns
-returns c =
-    let came : Slots = let a = c.args in
-    slots_of a.keys.now a.times.now a.fields.now in
-    let e : c.loop-i.i ≡ c.args.n = omega arith in
-    c.loop-i.invariant.1.exact ∙ ap (λ k. length (entries_up_to came k)) e
+    let s = came in
+    one_counted _ _ _ _ _ _ c.loop-i.invariant (entries_more s c.loop-i.i) (counted ∙ entry_at_length s c.loop-i.i (omega arith) short) small

@@ -6,10 +6,6 @@ use Rattle.slots.specs.Slots.{slots_of}
 use Rattle.image_writer.proofs.Lengths.{entries_le, records_le, image-length}
 use Rattle.image_writer.proofs.sizes.image_len.Goals as goal
 
-pub entries_len-requires : goal.entries_len-requires
-entries_len-requires c =
-    record { n_le_max_scenes = c.requires.entries_le_max_scenes; n_in_bounds = c.requires.entries_in_bounds; n_in_bounds_2 = c.requires.entries_in_bounds_2; stride_in_bounds = c.requires.stride_in_bounds; n_value = c.requires.entries_value }
-
 pub overflow_add-result : goal.overflow_add-result
 overflow_add-result c =
     let entries_fit : c.entries_len.result ≤ c.args.entries * 200 = let a = c.args in

@@ -2,31 +2,26 @@
 use Prim.Native.Nat.{ℕ}
 use mathlib.Core.Path.{◌≡◌, sym, ap, ◌∙◌}
 use native.Mathlib.Omega.{arith}
-use lib.ListN.{length, get_or}
-use Rattle.image_writer.proofs.Firsts.{records_up_to, records_none, records_more}
+use lib.ListN.{length, get_or, take}
+use lib.Seq.{length-take-le, get_or-take}
+use Rattle.image_writer.specs.Image.{record_length}
+use Rattle.image_writer.proofs.Firsts.{records_none, records_more}
 use Rattle.image_writer.proofs.Lengths.{none_counted, one_counted, record_length_lem, record_le}
 use Rattle.image_writer.proofs.sizes.records_len.Goals as goal
 
-pub loop-i-init : goal.loop-i-init
-loop-i-init c =
-    (omega arith, none_counted _ (records_none c.args.records.now))
+pub loop-word-init : goal.loop-word-init
+loop-word-init c = none_counted _ (records_none c.args.records.now)
 
 pub overflow_add-len : goal.overflow_add-len
 overflow_add-len c =
-    let word : ℕ = get_or c.args.records.now c.loop-i.i 0 in
-    omega (arith, record_le word, c.loop-i.invariant.1.under)
+    let t : length (take c.args.n c.args.records.now) ≡ c.args.n = length-take-le _ _ c.requires.n_in_bounds in
+    omega (arith, record_le (get_or (take c.args.n c.args.records.now) c.loop-word.word-index 0), c.loop-word.invariant.under)
 
-pub loop-i-preserved : goal.loop-i-preserved
-loop-i-preserved c =
-    let word : ℕ = get_or c.args.records.now c.loop-i.i 0 in
-    let a = c.args in (
-      omega arith,
-      one_counted _ _ _ _ _ _ c.loop-i.invariant.1 (records_more a.records.now c.loop-i.i (omega arith))
-          (c.record_len-len.ensures ∙ sym (record_length_lem word)) (omega (arith, record_le word)),
-    )
-
-pub returns : goal.returns
-returns c =
-    let a = c.args in
-    let e : c.loop-i.i ≡ a.n = omega arith in
-    c.loop-i.invariant.1.exact ∙ ap (λ k. length (records_up_to a.records.now k)) e
+pub loop-word-preserved : goal.loop-word-preserved
+loop-word-preserved c =
+    let rs = c.args.records.now in
+    let i = c.loop-word.word-index in
+    let t : length (take c.args.n rs) ≡ c.args.n = length-take-le _ _ c.requires.n_in_bounds in
+    let word : ℕ = get_or rs i 0 in
+    let len = c.record_len-len.ensures ∙ ap record_length (get_or-take c.args.n rs i 0 (omega arith)) in
+    one_counted _ _ _ _ _ _ c.loop-word.invariant (records_more rs i (omega arith)) (len ∙ sym (record_length_lem word)) (omega (arith, len, record_le word))

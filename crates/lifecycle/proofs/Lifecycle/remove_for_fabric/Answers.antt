@@ -1,10 +1,11 @@
 -- `Lifecycle::remove_for_fabric` meets its contract. Assumes nothing.
-use mathlib.Core.Path.{◌≡◌, ap, ◌∙◌}
+use mathlib.Core.Path.{◌≡◌, refl, ap, ◌∙◌}
 use mathlib.Core.Bool.{true, false}
 use native.Mathlib.Omega.{arith}
 use borrow.Author.Tests.{lt-ltb, le-ltb}
 use Rattle.words.specs.Constants.{success}
 use Rattle.words.specs.Words.{fabric_keys}
+use Rattle.words.proofs.Refusals.{refusal-number}
 use Rattle.requests.specs.Requests.{fabric_gate}
 use Rattle.state.specs.declared.ScenesState.{ScenesState}
 use Rattle.state.specs.Table.{Table, table_of, with_entries}
@@ -16,18 +17,18 @@ use Rattle.lifecycle.specs.Lifecycle.{removed_fabric, remove_for_fabric}
 use Rattle.lifecycle.proofs.Laws.{others_le, removed-fabric}
 use Rattle.lifecycle.proofs.Lifecycle.remove_for_fabric.Goals as goal
 
-pub returns-then-gate-ne-SUCCESS : goal.returns-then-gate-ne-SUCCESS
+pub returns-in-Err : goal.returns-in-Err
 unfolding remove_for_fabric
-returns-then-gate-ne-SUCCESS c =
+returns-in-Err c =
     let came : Table = let a = c.args in
     table_of a.self.state a.keys.now a.times.now a.fields.now a.records.now in
-    refuses-outcome came c.requires _ _ c.fabric_gate-gate.ensures _ _ c.unsaved.ensures c.if-gate-ne-SUCCESS.true
+    refuses-outcome came c.requires _ _ c.in-Err.ensures _ _ c.refused_by.ensures (refusal-number _)
 
 pub retain-state-requires : goal.retain-state-requires
 retain-state-requires c =
     let came : Table = let a = c.args in
     table_of a.self.state a.keys.now a.times.now a.fields.now a.records.now in
-    let admitted : Admitted came (fabric_gate c.args.fabric) = admits _ c.requires _ _ c.fabric_gate-gate.ensures c.if-gate-ne-SUCCESS.false in
+    let admitted : Admitted came (fabric_gate c.args.fabric) = admits _ c.requires _ _ c.in_default.ensures refl in
     let h = admitted.room in
     record { entries_in_bounds = omega arith; entries_in_bounds_2 = omega arith; stride_in_bounds = omega arith }
 
@@ -35,7 +36,7 @@ pub retain-left-requires : goal.retain-left-requires
 retain-left-requires c =
     let came : Table = let a = c.args in
     table_of a.self.state a.keys.now a.times.now a.fields.now a.records.now in
-    let admitted : Admitted came (fabric_gate c.args.fabric) = admits _ c.requires _ _ c.fabric_gate-gate.ensures c.if-gate-ne-SUCCESS.false in
+    let admitted : Admitted came (fabric_gate c.args.fabric) = admits _ c.requires _ _ c.in_default.ensures refl in
     let h = admitted.room in
     omega (arith, h.recorded, h.records)
 
@@ -43,7 +44,7 @@ pub overflow_add-state : goal.overflow_add-state
 overflow_add-state c =
     let came : Table = let a = c.args in
     table_of a.self.state a.keys.now a.times.now a.fields.now a.records.now in
-    let admitted : Admitted came (fabric_gate c.args.fabric) = admits _ c.requires _ _ c.fabric_gate-gate.ensures c.if-gate-ne-SUCCESS.false in
+    let admitted : Admitted came (fabric_gate c.args.fabric) = admits _ c.requires _ _ c.in_default.ensures refl in
     let h = admitted.bounds in
     let t = came in
     omega (
@@ -60,7 +61,7 @@ pub overflow_add-entries : goal.overflow_add-entries
 overflow_add-entries c =
     let came : Table = let a = c.args in
     table_of a.self.state a.keys.now a.times.now a.fields.now a.records.now in
-    let admitted : Admitted came (fabric_gate c.args.fabric) = admits _ c.requires _ _ c.fabric_gate-gate.ensures c.if-gate-ne-SUCCESS.false in
+    let admitted : Admitted came (fabric_gate c.args.fabric) = admits _ c.requires _ _ c.in_default.ensures refl in
     let h = admitted.bounds in
     omega (arith, h.most, h.entries, h.recorded)
 
@@ -70,10 +71,11 @@ returns-then-state-left c =
     let came : Table = let a = c.args in
     table_of a.self.state a.keys.now a.times.now a.fields.now a.records.now in
     let left : Table = table_of c.retain-state.result c.retain-state.new.keys c.retain-state.new.times c.retain-state.new.fields came.records in
-    let admitted : Admitted came (fabric_gate c.args.fabric) = admits _ c.requires _ _ c.fabric_gate-gate.ensures c.if-gate-ne-SUCCESS.false in
+    let admitted : Admitted came (fabric_gate c.args.fabric) = admits _ c.requires _ _ c.in_default.ensures refl in
     let left_by : (left ≡ with_entries (retain_outside (fabric_keys c.args.fabric)) came) = retained_table came _ _ _ _ _ c.retain-state.ensures in
     let t = came in
-    ap (λ (s : ScenesState). result_of success true (record { state = s; slots = left.slots; records = c.retain-left.new.records })) c.bump_info_dataver.ensures
+    ap (result_in left.slots c.retain-left.new.records) c.saved.ensures
+    ∙ ap (λ (s : ScenesState). result_of success true (record { state = s; slots = left.slots; records = c.retain-left.new.records })) c.bump_info_dataver.ensures
     ∙ removed-fabric c.args.fabric t left _ _ true c.retain-left.ensures.0 c.retain-left.ensures.1 (lt-ltb _ _ c.if-state-left.true)
     ∙ ap (removed_fabric c.args.fabric t) left_by
     ∙ admitted.answers _ _
@@ -84,10 +86,10 @@ returns c =
     let came : Table = let a = c.args in
     table_of a.self.state a.keys.now a.times.now a.fields.now a.records.now in
     let left : Table = table_of c.retain-state.result c.retain-state.new.keys c.retain-state.new.times c.retain-state.new.fields came.records in
-    let admitted : Admitted came (fabric_gate c.args.fabric) = admits _ c.requires _ _ c.fabric_gate-gate.ensures c.if-gate-ne-SUCCESS.false in
+    let admitted : Admitted came (fabric_gate c.args.fabric) = admits _ c.requires _ _ c.in_default.ensures refl in
     let left_by : (left ≡ with_entries (retain_outside (fabric_keys c.args.fabric)) came) = retained_table came _ _ _ _ _ c.retain-state.ensures in
     let t = came in
-    ap (result_in left.slots c.retain-left.new.records) c.unsaved-2.ensures
+    ap (result_in left.slots c.retain-left.new.records) c.unsaved.ensures
     ∙ removed-fabric c.args.fabric t left _ _ false c.retain-left.ensures.0 c.retain-left.ensures.1 (le-ltb _ _ c.if-state-left.false)
     ∙ ap (removed_fabric c.args.fabric t) left_by
     ∙ admitted.answers _ _

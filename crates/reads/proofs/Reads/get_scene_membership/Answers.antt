@@ -1,6 +1,6 @@
 -- `Reads::get_scene_membership` meets its contract. Assumes nothing.
 use Prim.Native.Nat.{ℕ, ◌≤◌, ◌<◌}
-use mathlib.Core.Path.{◌≡◌, sym, ◌∙◌}
+use mathlib.Core.Path.{refl, ◌≡◌, sym, ◌∙◌}
 use mathlib.Core.Bool.{Bool, true, false}
 use mathlib.Core.List.{List}
 use native.Mathlib.Omega.{arith}
@@ -10,6 +10,7 @@ use borrow.Author.Tests.{lt-ltb, le-ltb, leb-true, leb-false}
 use Rattle.words.specs.Constants.{success, buffer_too_short}
 use Rattle.words.specs.declared.GroupKey.{GroupKey}
 use Rattle.words.specs.declared.KeyRange.TheVariants.{Group}
+use Rattle.words.proofs.Refusals.{refusal-number}
 use Rattle.requests.specs.Requests.{group_gate}
 use Rattle.slots.specs.Slots.{count_keys, laid}
 use Rattle.slots.proofs.Laws.{scenes-length}
@@ -48,21 +49,21 @@ list-fits key left n ids buffer t e1 e2 e3 h =
     (λ i. listed_of (record { status = success; remaining = e3 i; len = (e1 ∙ size_of key t) i; state = t.state }) (e2 i))
     ∙ rw (le-ltb (length buffer) (length (scene_ids key t)) h)
 
-pub returns-then-gate-ne-SUCCESS : goal.returns-then-gate-ne-SUCCESS
+pub returns-in-Err : goal.returns-in-Err
 unfolding get_scene_membership
-returns-then-gate-ne-SUCCESS c =
+returns-in-Err c =
     let buffer : List ℕ = c.args.ids.now in
     let came : Table = let a = c.args in
     table_of a.self.state a.keys.now a.times.now a.fields.now a.records.now in
-    (λ d. listed_of (c.refused.ensures d) buffer)
-    ∙ refuses came c.requires _ _ c.group_gate-gate.ensures (unlisted buffer came) _ c.if-gate-ne-SUCCESS.true
+    (λ d. listed_of (c.refused_by.ensures d) buffer)
+    ∙ refuses came c.requires _ _ c.in-Err.ensures (unlisted buffer came) _ (refusal-number _)
 
 pub count_fits-requires : goal.count_fits-requires
 count_fits-requires c =
     let came : Table = let a = c.args in
     table_of a.self.state a.keys.now a.times.now a.fields.now a.records.now in
     let admitted : (let a = c.args in
-    Admitted came (group_gate a.key a.member)) = admits _ c.requires _ _ c.group_gate-gate.ensures c.if-gate-ne-SUCCESS.false in
+    Admitted came (group_gate a.key a.member)) = admits _ c.requires _ _ c.in_default.ensures refl in
     let h = admitted.room in
     omega arith
 
@@ -71,7 +72,7 @@ list_scenes-len-requires c =
     let came : Table = let a = c.args in
     table_of a.self.state a.keys.now a.times.now a.fields.now a.records.now in
     let admitted : (let a = c.args in
-    Admitted came (group_gate a.key a.member)) = admits _ c.requires _ _ c.group_gate-gate.ensures c.if-gate-ne-SUCCESS.false in
+    Admitted came (group_gate a.key a.member)) = admits _ c.requires _ _ c.in_default.ensures refl in
     let h = admitted.room in
     record { n_in_bounds = omega arith; range_in_bounds = leb-true _ _ (sym c.count_fits.ensures ∙ c.if-count_fits.true) }
 
@@ -80,7 +81,7 @@ remaining_capacity_for_fab-requires c =
     let came : Table = let a = c.args in
     table_of a.self.state a.keys.now a.times.now a.fields.now a.records.now in
     let admitted : (let a = c.args in
-    Admitted came (group_gate a.key a.member)) = admits _ c.requires _ _ c.group_gate-gate.ensures c.if-gate-ne-SUCCESS.false in
+    Admitted came (group_gate a.key a.member)) = admits _ c.requires _ _ c.in_default.ensures refl in
     let h = admitted.room in
     omega arith
 
@@ -91,7 +92,7 @@ returns-then-count_fits c =
     let came : Table = let a = c.args in
     table_of a.self.state a.keys.now a.times.now a.fields.now a.records.now in
     let admitted : (let a = c.args in
-    Admitted came (group_gate a.key a.member)) = admits _ c.requires _ _ c.group_gate-gate.ensures c.if-gate-ne-SUCCESS.false in
+    Admitted came (group_gate a.key a.member)) = admits _ c.requires _ _ c.in_default.ensures refl in
     list-fits c.args.key _ _ _ buffer came c.list_scenes-len.ensures.0 c.list_scenes-len.ensures.1
     c.remaining_capacity_for_fab.ensures
     (fitting c.args.key came c.count_fits.ensures c.if-count_fits.true)
@@ -103,9 +104,9 @@ returns c =
     let came : Table = let a = c.args in
     table_of a.self.state a.keys.now a.times.now a.fields.now a.records.now in
     let admitted : (let a = c.args in
-    Admitted came (group_gate a.key a.member)) = admits _ c.requires _ _ c.group_gate-gate.ensures c.if-gate-ne-SUCCESS.false in
+    Admitted came (group_gate a.key a.member)) = admits _ c.requires _ _ c.in_default.ensures refl in
     let a = c.args in
-    (λ d. listed_of (c.refused-2.ensures d) a.ids.now)
+    (λ d. listed_of (c.refused_by-2.ensures d) a.ids.now)
     ∙ list-long (scene_ids a.key came) (remaining a.self.state a.keys.now a.key.fabric) a.ids.now came
     (too_long_lem a.key came c.count_fits.ensures c.if-count_fits.false)
     ∙ admitted.answers (unlisted a.ids.now came) _

@@ -1,8 +1,9 @@
 -- `Reads::recall_lookup` meets its contract. Assumes nothing.
 use Prim.Native.Nat.{◌<◌}
-use mathlib.Core.Path.{◌≡◌, sym, ap, ◌∙◌}
+use mathlib.Core.Path.{refl, ◌≡◌, sym, ap, ◌∙◌}
 use native.Mathlib.Omega.{arith}
-use Rattle.words.specs.declared.Found.{Found}
+use Rattle.std.specs.Prelude.{Option, ℕ}
+use Rattle.words.proofs.Refusals.{refusal-number}
 use Rattle.requests.specs.Requests.{lookup_gate}
 use Rattle.state.specs.Table.{Table, table_of}
 use Rattle.state.specs.Change.{find_scene}
@@ -13,32 +14,32 @@ use Rattle.reads.specs.Reads.{read_at, recall_lookup}
 use Rattle.reads.proofs.Laws.{read_found}
 use Rattle.reads.proofs.Reads.recall_lookup.Goals as goal
 
-pub returns-then-gate-ne-SUCCESS : goal.returns-then-gate-ne-SUCCESS
+pub returns-in-Err : goal.returns-in-Err
 unfolding recall_lookup
-returns-then-gate-ne-SUCCESS c =
+returns-in-Err c =
     let came : Table = let a = c.args in
     table_of a.self.state a.keys.now a.times.now a.fields.now a.records.now in
-    c.refused.ensures ∙ refuses came c.requires _ _ c.lookup_gate-gate.ensures _ _ c.if-gate-ne-SUCCESS.true
+    c.refused_by.ensures ∙ refuses came c.requires _ _ c.in-Err.ensures _ _ (refusal-number _)
 
 pub find-requires : goal.find-requires
 find-requires c =
     let came : Table = let a = c.args in
     table_of a.self.state a.keys.now a.times.now a.fields.now a.records.now in
     let admitted : (let a = c.args in
-    Admitted came (lookup_gate a.key a.member)) = admits _ c.requires _ _ c.lookup_gate-gate.ensures c.if-gate-ne-SUCCESS.false in
+    Admitted came (lookup_gate a.key a.member)) = admits _ c.requires _ _ c.in_default.ensures refl in
     let h = admitted.room in
     omega arith
 
-pub returns-in_default : goal.returns-in_default
+pub returns-in_default-find : goal.returns-in_default-find
 unfolding recall_lookup read_at
-returns-in_default c =
+returns-in_default-find c =
     let came : Table = let a = c.args in
     table_of a.self.state a.keys.now a.times.now a.fields.now a.records.now in
     let admitted : (let a = c.args in
-    Admitted came (lookup_gate a.key a.member)) = admits _ c.requires _ _ c.lookup_gate-gate.ensures c.if-gate-ne-SUCCESS.false in
+    Admitted came (lookup_gate a.key a.member)) = admits _ c.requires _ _ c.in_default.ensures refl in
     let found : (c.find.result ≡ find_scene c.args.key came) = found-scene _ came _ _ c.word.ensures c.find.ensures in
-    c.refused-in_default.ensures
-    ∙ ap (λ (x : Found). read_at x c.args.transition came) (sym c.in_default.is ∙ found)
+    c.refused_by-in_default-find.ensures
+    ∙ ap (λ (x : Option ℕ). read_at x c.args.transition came) (sym c.in_default-find.is ∙ found)
     ∙ admitted.answers _ _
 
 pub offset_bounds-times-at : goal.offset_bounds-times-at
@@ -46,9 +47,9 @@ offset_bounds-times-at c =
     let came : Table = let a = c.args in
     table_of a.self.state a.keys.now a.times.now a.fields.now a.records.now in
     let admitted : (let a = c.args in
-    Admitted came (lookup_gate a.key a.member)) = admits _ c.requires _ _ c.lookup_gate-gate.ensures c.if-gate-ne-SUCCESS.false in
+    Admitted came (lookup_gate a.key a.member)) = admits _ c.requires _ _ c.in_default.ensures refl in
     let found : (c.find.result ≡ find_scene c.args.key came) = found-scene _ came _ _ c.word.ensures c.find.ensures in
-    let under : c.in-At.at < c.args.self.state.entries = found_under _ _ _ _ (sym found ∙ c.in-At.is) in
+    let under : c.in-Some.at < c.args.self.state.entries = found_under _ _ _ _ (sym found ∙ c.in-Some.is) in
     let h = admitted.room in
     let u = under in
     omega arith
@@ -58,9 +59,9 @@ bounds-times-at c =
     let came : Table = let a = c.args in
     table_of a.self.state a.keys.now a.times.now a.fields.now a.records.now in
     let admitted : (let a = c.args in
-    Admitted came (lookup_gate a.key a.member)) = admits _ c.requires _ _ c.lookup_gate-gate.ensures c.if-gate-ne-SUCCESS.false in
+    Admitted came (lookup_gate a.key a.member)) = admits _ c.requires _ _ c.in_default.ensures refl in
     let found : (c.find.result ≡ find_scene c.args.key came) = found-scene _ came _ _ c.word.ensures c.find.ensures in
-    let under : c.in-At.at < c.args.self.state.entries = found_under _ _ _ _ (sym found ∙ c.in-At.is) in
+    let under : c.in-Some.at < c.args.self.state.entries = found_under _ _ _ _ (sym found ∙ c.in-Some.is) in
     let h = admitted.room in
     let u = under in
     omega arith
@@ -70,9 +71,9 @@ found-requires c =
     let came : Table = let a = c.args in
     table_of a.self.state a.keys.now a.times.now a.fields.now a.records.now in
     let admitted : (let a = c.args in
-    Admitted came (lookup_gate a.key a.member)) = admits _ c.requires _ _ c.lookup_gate-gate.ensures c.if-gate-ne-SUCCESS.false in
+    Admitted came (lookup_gate a.key a.member)) = admits _ c.requires _ _ c.in_default.ensures refl in
     let found : (c.find.result ≡ find_scene c.args.key came) = found-scene _ came _ _ c.word.ensures c.find.ensures in
-    let under : c.in-At.at < c.args.self.state.entries = found_under _ _ _ _ (sym found ∙ c.in-At.is) in
+    let under : c.in-Some.at < c.args.self.state.entries = found_under _ _ _ _ (sym found ∙ c.in-Some.is) in
     let h = admitted.room in
     let u = under in
     omega arith
@@ -83,9 +84,9 @@ returns c =
     let came : Table = let a = c.args in
     table_of a.self.state a.keys.now a.times.now a.fields.now a.records.now in
     let admitted : (let a = c.args in
-    Admitted came (lookup_gate a.key a.member)) = admits _ c.requires _ _ c.lookup_gate-gate.ensures c.if-gate-ne-SUCCESS.false in
+    Admitted came (lookup_gate a.key a.member)) = admits _ c.requires _ _ c.in_default.ensures refl in
     let found : (c.find.result ≡ find_scene c.args.key came) = found-scene _ came _ _ c.word.ensures c.find.ensures in
     c.found.ensures
-    ∙ read_found came c.in-At.at c.effective_time-time.result c.args.transition c.effective_time-time.ensures
-    ∙ ap (λ (x : Found). read_at x c.args.transition came) (sym c.in-At.is ∙ found)
+    ∙ read_found came c.in-Some.at c.effective_time-time.result c.args.transition c.effective_time-time.ensures
+    ∙ ap (λ (x : Option ℕ). read_at x c.args.transition came) (sym c.in-Some.is ∙ found)
     ∙ admitted.answers _ _

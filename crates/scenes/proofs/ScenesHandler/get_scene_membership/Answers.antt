@@ -17,5 +17,5 @@ returns c =
     let came : Table = let a = c.args in
     table_of a.self.state a.keys.now a.times.now a.fields.now a.records.now in
     let buffer : List ℕ = c.args.ids.now in
-    (λ i. listed_of (c.refused.ensures i) buffer)
+    (λ i. listed_of (c.refused_by.ensures i) buffer)
     ∙ answers_unsound _ (sym c.is_sound.ensures ∙ c.if-is_sound.false) _ (unlisted buffer came) _

@@ -11,4 +11,4 @@ recall_lookup-requires c =
 pub returns : goal.returns
 unfolding recall_lookup
 returns c =
-    c.refused.ensures ∙ answers_unsound _ (sym c.is_sound.ensures ∙ c.if-is_sound.false) _ _ _
+    c.refused_by.ensures ∙ answers_unsound _ (sym c.is_sound.ensures ∙ c.if-is_sound.false) _ _ _

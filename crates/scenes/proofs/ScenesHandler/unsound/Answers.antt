@@ -3,4 +3,4 @@ use Rattle.scenes.proofs.ScenesHandler.unsound.Goals as goal
 
 pub returns : goal.returns
 returns c =
-    c.unsaved.ensures
+    c.refused_by.ensures

@@ -11,4 +11,4 @@ view_scene-requires c =
 pub returns : goal.returns
 unfolding view_scene
 returns c =
-    c.refused.ensures ∙ answers_unsound _ (sym c.is_sound.ensures ∙ c.if-is_sound.false) _ _ _
+    c.refused_by.ensures ∙ answers_unsound _ (sym c.is_sound.ensures ∙ c.if-is_sound.false) _ _ _

@@ -1,6 +1,6 @@
 -- `script_answers::dump::put_table` meets its contract. Assumes nothing.
 use Prim.Native.Nat.{ℕ, ◌≤◌, min}
-use mathlib.Core.Path.{◌≡◌, ◌∙◌, subst⁻¹}
+use mathlib.Core.Path.{◌≡◌, ap, ◌∙◌, subst⁻¹}
 use lib.ListN.{get_or, length}
 use Rattle.words.specs.Constants.{max_scenes}
 use Rattle.state.specs.Table.{Table, table_of}
@@ -27,7 +27,6 @@ returns c =
     let listed : (let a = c.args in
     sheet c.put_entries-entries.new.out c.put_entries-entries.result ≡ writes_below (entry_line came) (min a.state.entries (length a.keys.now)) (writes (counts_line a.state) (sheet a.out.now a.at))) = c.put_entries-entries.ensures
     ∙ (λ k. writes_below (shown came c.stored-stored.ensures k)
-    (c.least-shown.ensures k) (c.put_counts-counts.ensures k)) in
+    (c.min-shown.ensures k) (c.put_counts-counts.ensures k)) in
     c.put_records.ensures
-    ∙ (λ i. writes_below (λ j. record_line (get_or came.records j 0)) (c.least-recorded.ensures i)
-    (listed i))
+    ∙ ap (writes_below (λ j. record_line (get_or came.records j 0)) (min c.args.state.recorded (length c.args.records.now))) listed

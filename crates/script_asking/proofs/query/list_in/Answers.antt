@@ -23,4 +23,4 @@ returns c =
     let a = c.args in
     in_front_lem (λ b. list_asked a.read.values b (groups_of a.asking.groups a.words.now) (came a.asking.state))
     (value_at a.read.values 4) a.buffer.now _
-    (done_of c.list.result (came c.list.result.state)) _ c.least-n.ensures c.list.ensures
+    (done_of c.list.result (came c.list.result.state)) _ c.min-n.ensures c.list.ensures

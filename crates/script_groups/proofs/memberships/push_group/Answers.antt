@@ -10,6 +10,8 @@ use Rattle.script_answers.specs.Done.{read_of}
 use Rattle.script_groups.specs.Memberships.{group_done}
 use Rattle.script_groups.proofs.GroupLaws.{ends, group_pushed, group-refused, group_test, group-room}
 use borrow.Author.Rules.{rules}
+use Rattle.std.specs.Prelude.{ℕ, false}
+use Rattle.script_groups.specs.declared.calls.GroupAnswer.{GroupAnswer}
 use Rattle.script_groups.proofs.memberships.push_group.Goals as goal
 
 pub offset_bounds-words-n : goal.offset_bounds-words-n
@@ -51,6 +53,7 @@ returns c =
     let a = c.args in
     let g = groups_of a.asking.groups a.words.now in
     λ k t f w.
-    ap (ends k t f w a.words.now) c.unsaved-2.ensures
+    let answered : ℕ → GroupAnswer = λ n. record { answer = record { status = n; save = false; state = a.asking.state; tail = Nothing }; groups = a.asking.groups } in
+    ap (ends k t f w a.words.now) (c.unsaved-2.ensures ∙ ap answered c.from.ensures)
     ∙ group-refused a.read.values g (table_of a.asking.state k t f w)
     (group_test a.asking.groups _ a.read.values c.group_key-key.ensures _ _ _ c.group_fits.ensures c.if-group_fits.false)

@@ -1,19 +1,25 @@
 -- `script_lines::reader::transition` meets its contract. Assumes nothing.
-use mathlib.Core.Path.{sym, ◌∙◌}
+use Rattle.text_input.proofs.Reading.{same_read}
 use Rattle.script_lines.specs.Lines.{override_of}
 use Rattle.script_lines.proofs.reader.transition.Goals as goal
+use Rattle.script_lines.proofs.reader.transition.Goals.{then-eq-via-then-eq, then-eq-via-else-eq+then-eq-2}
 
-pub returns-then-same : goal.returns-then-same
+pub returns-then-eq : goal.returns-then-eq
 unfolding override_of
-returns-then-same c =
-    rw (sym c.same.ensures ∙ c.if-same.true)
-
-pub returns-then-same-2 : goal.returns-then-same-2
-unfolding override_of
-returns-then-same-2 c =
-    rw (sym c.same.ensures ∙ c.if-same.false, sym c.same-2.ensures ∙ c.if-same-2.true)
+returns-then-eq c =
+    elim c.then-eq.branch [
+      | then-eq-via-then-eq w ↦ rw (same_read _ _ _ _ c.as_slice.ensures w.if-eq.ensures)
+      | then-eq-via-else-eq+then-eq-2 w ↦ rw (
+        same_read _ _ _ _ c.as_slice.ensures w.if-eq.ensures,
+        same_read _ _ _ _ w.as_slice-else-eq.ensures w.if-eq-2.ensures,
+      )
+    ]
 
 pub returns : goal.returns
 unfolding override_of
 returns c =
-    rw (sym c.same.ensures ∙ c.if-same.false, sym c.same-2.ensures ∙ c.if-same-2.false) c.number.ensures
+    rw (
+      same_read _ _ _ _ c.as_slice.ensures c.if-eq.ensures,
+      same_read _ _ _ _ c.as_slice-else-eq.ensures c.if-eq-2.ensures,
+    )
+    c.number.ensures

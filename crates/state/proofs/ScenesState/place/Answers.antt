@@ -16,4 +16,4 @@ returns-in_default c =
 pub returns : goal.returns
 unfolding place_for
 returns c =
-    simp c.in-At.is
+    simp c.in-Some.is

@@ -1,27 +1,22 @@
 -- `text_input::input::all_pairs` meets its contract. Assumes nothing.
-use mathlib.Core.Path.{refl, sym, ◌∙◌}
+use Prim.Native.Nat.{◌%◌}
+use mathlib.Core.Path.{◌≡◌}
 use native.Mathlib.Omega.{arith}
-use Rattle.text_input.proofs.Reading.{all_pairs_rest, all_pairs_high, all_pairs_low, all_pairs_next}
+use lib.ListN.{length}
+use Rattle.std.proofs.Common.{rules, tests, eq-eqb, ne_eqb}
+use Rattle.std.specs.Char.{is_ascii_hexdigit}
+use Rattle.std.proofs.lemmas.Iterator.{YieldsList-from_slice}
+use Rattle.std.proofs.lemmas.Iterator.Search.{all_from_yields_List}
+use Rattle.std.specs.List.{list_all}
+use Rattle.text_input.proofs.Reading.{pairs_tested}
 use Rattle.text_input.proofs.input.all_pairs.Goals as goal
 
-pub loop-i-init : goal.loop-i-init
-loop-i-init c =
-    (omega arith, refl)
+pub returns-then-word-eq0 : goal.returns-then-word-eq0
+returns-then-word-eq0 c =
+    let all : c.all.result ≡ list_all is_ascii_hexdigit c.args.word.now =
+    all_from_yields_List is_ascii_hexdigit _ _ _ c.all.ensures.ran (YieldsList-from_slice c.args.word.now cc) (λ x b q k. search (rules, tests)) in
+    rw (pairs_tested c.args.word.now, eq-eqb (length c.args.word.now % 2) 0 (omega arith)) all
 
-pub returns-then-hex_value-gt15 : goal.returns-then-hex_value-gt15
-returns-then-hex_value-gt15 c =
-    sym (c.loop-i.invariant.1 ∙ all_pairs_high _ c.loop-i.i (omega arith) _ _ c.hex_value.ensures refl (omega arith))
-
-pub returns-then-hex_value-gt15-2 : goal.returns-then-hex_value-gt15-2
-returns-then-hex_value-gt15-2 c =
-    sym (c.loop-i.invariant.1 ∙ all_pairs_low _ c.loop-i.i (omega arith) _ _ c.hex_value.ensures c.hex_value-in-loop-i.ensures (omega arith) (omega arith))
-
-pub loop-i-preserved : goal.loop-i-preserved
-loop-i-preserved c = (
-  omega arith,
-  c.loop-i.invariant.1 ∙ all_pairs_next _ c.loop-i.i (omega arith) _ _ c.hex_value.ensures c.hex_value-in-loop-i.ensures (omega arith) (omega arith),
-)
-
-pub returns : goal.returns
-returns c =
-    all_pairs_rest _ c.loop-i.i _ (λ e. omega (arith, e)) (λ n. omega (arith, n)) ∙ sym c.loop-i.invariant.1
+pub returns-else-word-eq0 : goal.returns-else-word-eq0
+returns-else-word-eq0 c =
+    rw (pairs_tested c.args.word.now, ne_eqb (length c.args.word.now % 2) 0 (omega arith))

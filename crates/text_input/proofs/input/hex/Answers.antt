@@ -1,30 +1,22 @@
 -- `text_input::input::hex` meets its contract. Assumes nothing.
-use mathlib.Core.Path.{sym, ◌∙◌}
-use borrow.Author.Tests.{eq-eqb, ne_eqb}
-use Rattle.text_input.specs.Reading.{or_dash}
+use Rattle.std.proofs.lemmas.Result.{err_from_is_err_and}
+use Rattle.text_input.proofs.Reading.{or_dash_is}
 use Rattle.text_input.proofs.input.hex.Goals as goal
 
-pub returns-then-word-eq0 : goal.returns-then-word-eq0
-unfolding or_dash
-returns-then-word-eq0 c =
-    rw (eq-eqb _ _ c.if-word-eq0.true)
+pub returns-in_err-is_dash : goal.returns-in_err-is_dash
+returns-in_err-is_dash c =
+    let e = err_from_is_err_and c.from_residual.result c.from_residual.ensures.1 in
+    rw (or_dash_is c.args.word.now _, ← c.is_dash.ensures, c.in_err-is_dash.was, e.1, e.2)
 
-pub returns-then-same : goal.returns-then-same
-unfolding or_dash
-returns-then-same c =
-    rw (ne_eqb _ _ c.if-word-eq0.false, sym c.same.ensures ∙ c.if-same.true)
+pub returns-then-branch : goal.returns-then-branch
+returns-then-branch c =
+    rw (or_dash_is c.args.word.now _, ← c.is_dash.ensures, c.in_ok-is_dash.was, c.if-branch.true)
 
-pub lay_pairs-requires : goal.lay_pairs-requires
-lay_pairs-requires c =
-    sym c.all_pairs.ensures ∙ c.if-all_pairs.true
-
-pub returns-then-all_pairs : goal.returns-then-all_pairs
-unfolding or_dash
-returns-then-all_pairs c =
-    rw (ne_eqb _ _ c.if-word-eq0.false, sym c.same.ensures ∙ c.if-same.false, sym c.all_pairs.ensures ∙ c.if-all_pairs.true)
-    c.lay_pairs.ensures
+pub returns-then-not-all_pairs : goal.returns-then-not-all_pairs
+returns-then-not-all_pairs c =
+    rw (or_dash_is c.args.word.now _, ← c.is_dash.ensures, c.in_ok-is_dash.was, c.if-branch.false, ← c.if-not-all_pairs.ensures)
 
 pub returns : goal.returns
-unfolding or_dash
 returns c =
-    rw (ne_eqb _ _ c.if-word-eq0.false, sym c.same.ensures ∙ c.if-same.false, sym c.all_pairs.ensures ∙ c.if-all_pairs.false)
+    rw (or_dash_is c.args.word.now _, ← c.is_dash.ensures, c.in_ok-is_dash.was, c.if-branch.false, ← c.if-not-all_pairs.ensures)
+    c.lay_pairs.ensures

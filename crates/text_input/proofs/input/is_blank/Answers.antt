@@ -1,19 +1,14 @@
 -- `text_input::input::is_blank` meets its contract. Assumes nothing.
-use borrow.Author.Tests.{eq-eqb, ne_eqb}
+use Rattle.std.proofs.Common.{arith, tests}
 use Rattle.text_input.specs.Reading.{blank}
 use Rattle.text_input.proofs.input.is_blank.Goals as goal
 
-pub returns-then-b-eq32 : goal.returns-then-b-eq32
+pub returns-in-32 : goal.returns-in-32
 unfolding blank
-returns-then-b-eq32 c =
-    simp (eq-eqb _ _ c.if-b-eq32.true)
+returns-in-32 c =
+    grind (arith, tests)
 
-pub returns-then-b-eq9 : goal.returns-then-b-eq9
+pub returns-in_default : goal.returns-in_default
 unfolding blank
-returns-then-b-eq9 c =
-    simp (ne_eqb _ _ c.if-b-eq32.false, eq-eqb _ _ c.if-b-eq9.true)
-
-pub returns : goal.returns
-unfolding blank
-returns c =
-    simp (ne_eqb _ _ c.if-b-eq32.false, ne_eqb _ _ c.if-b-eq9.false)
+returns-in_default c =
+    grind (arith, tests)

@@ -1,50 +1,43 @@
 -- `text_input::lines::gather` meets its contract. Assumes nothing.
-use mathlib.Core.Path.{refl, sym, ap, ◌∙◌}
-use mathlib.Core.Bool.{not}
+use Prim.Native.Nat.{ℕ, ◌+◌, ◌-◌}
+use mathlib.Core.Path.{◌≡◌, sym, ap, ◌∙◌}
+use mathlib.Core.List.{List}
 use native.Mathlib.Omega.{arith}
-use lib.ListN.{length}
-use borrow.Author.Tests.{eq-eqb, ne_eqb, lt-ltb, le-ltb}
-use Rattle.text_output.specs.Writing.{puts}
-use Rattle.text_input.specs.Gathering.{line_end}
-use Rattle.text_input.proofs.Gathering.{line_end_lem, chunk_end, line_on, line-next, line-done}
+use lib.ListN.{take, drop}
+use lib.Seq.{slice}
+use borrow.Author.Tests.{lt-ltb, le-ltb}
+use Rattle.std.proofs.Common.{rules, tests}
+use Rattle.std.proofs.lemmas.Iterator.{YieldsList-from_slice}
+use Rattle.std.proofs.lemmas.Iterator.Consumers.{count_from_yields_List, YieldsList-at}
+use Rattle.std.proofs.lemmas.Iterator.Adapters.{YieldsList-from_skip}
+use Rattle.std.proofs.lemmas.Iterator.Search.{YieldsList-from_take_while}
+use Rattle.std.proofs.lemmas.List.{drop-take}
+use Rattle.std.proofs.lemmas.List.Folds.{length-prefix_len}
+use Rattle.std.specs.List.{prefix_len}
+use Rattle.text_output.specs.Writing.{sheet, puts}
+use Rattle.text_input.specs.Gathering.{in_line, line_end}
 use Rattle.text_input.proofs.lines.gather.Goals as goal
-
-pub loop-i-init : goal.loop-i-init
-loop-i-init c =
-    (refl, refl, refl)
-
-pub shape_of-line-then-b-eq10 : goal.shape_of-line-then-b-eq10
-shape_of-line-then-b-eq10 c =
-    c.loop-i.invariant.0
-
-pub returns-then-b-eq10 : goal.returns-then-b-eq10
-returns-then-b-eq10 c =
-    let a = c.args in
-    let e = line_end_lem _ _ _ c.loop-i.invariant.1 c.loop-i-test.true (ap not (eq-eqb _ _ c.if-b-eq10.true)) in
-    record {
-      ended = sym (lt-ltb (line_end a.chunk.now a.from) (length a.chunk.now) (omega arith));
-      next = omega arith;
-      bytes = sym (sym c.loop-i.invariant.2 ∙ line-done _ _ _ c.loop-i.invariant.1 _ e);
-    }
-
-pub loop-i-preserved : goal.loop-i-preserved
-loop-i-preserved c =
-    let n = ap not (ne_eqb _ _ c.if-b-eq10.false) in (
-      c.put-n.auto.out ∙ c.loop-i.invariant.0,
-      line_on _ _ _ c.loop-i.invariant.1 c.loop-i-test.true n,
-      ap (puts _) c.put-n.ensures ∙ sym (line-next _ _ _ c.loop-i.invariant.1 _ c.loop-i-test.true n) ∙ c.loop-i.invariant.2,
-    )
-
-pub shape_of-line : goal.shape_of-line
-shape_of-line c =
-    c.loop-i.invariant.0
+use Rattle.text_input.proofs.lines.gather.Goals.{then-ended, else-ended}
 
 pub returns : goal.returns
 returns c =
-    let a = c.args in
-    let e = chunk_end _ _ _ c.loop-i.invariant.1 c.loop-i-test.false in
+    let chunk = c.args.chunk.now in
+    let from = c.args.from in
+    let run : c.count.result ≡ prefix_len in_line (drop from chunk) =
+    count_from_yields_List c.take_while.result _ c.count.ensures.ran
+    (YieldsList-from_take_while _ in_line (YieldsList-at c.take_while.ensures.source (YieldsList-from_skip from (YieldsList-from_slice chunk cc) cc))
+    c.take_while.ensures.closure c.take_while.ensures.done (λ x b q k. search (rules, tests)))
+    ∙ length-prefix_len in_line (drop from chunk) in
+    let end : from + c.count.result ≡ line_end chunk from = ap (λ (n : ℕ). from + n) run in
     record {
-      ended = sym (le-ltb (line_end a.chunk.now a.from) (length a.chunk.now) (omega arith));
-      next = omega arith;
-      bytes = sym (sym c.loop-i.invariant.2 ∙ line-done _ _ _ c.loop-i.invariant.1 _ e);
+      ended = rw end;
+      next = elim c.if-ended.branch [
+        | then-ended w ↦ rw (lt-ltb _ _ w.if-ended.true) (w.result-is ∙ ap (λ (n : ℕ). n + 1) end)
+        | else-ended w ↦ rw (le-ltb _ _ w.if-ended.false) (w.result-is ∙ end)
+      ];
+      bytes =
+          let n : from + c.count.result - from ≡ c.count.result = omega arith in
+          let read : c.part.result.now ≡ slice from (line_end chunk from) chunk =
+          c.part.ensures ∙ ap (λ (n : ℕ). take n (drop from chunk)) n ∙ sym (drop-take from c.count.result chunk) ∙ ap (λ (n : ℕ). slice from n chunk) end in
+          c.put_text.ensures ∙ ap (λ (t : List ℕ). puts t (sheet c.args.line.now c.args.held)) read;
     }

@@ -1,23 +1,14 @@
 -- `text_output::output::put_hex` meets its contract. Assumes nothing.
-use mathlib.Core.Path.{refl, sym, ap, ◌∙◌}
+use mathlib.Core.Path.{sym, ap, ◌∙◌}
+use native.Mathlib.Omega.{arith}
 use Rattle.text_output.specs.Writing.{puts}
 use Rattle.text_output.proofs.Writing.{hex_next, hex_end}
 use Rattle.text_output.proofs.output.put_hex.Goals as goal
 
-pub loop-i-init : goal.loop-i-init
-loop-i-init c =
-    (refl, refl)
-
-pub loop-i-preserved : goal.loop-i-preserved
-loop-i-preserved c = (
-  c.put_hex_byte-next.auto.out ∙ c.loop-i.invariant.0,
-  c.loop-i.invariant.1 ∙ hex_next _ _ _ c.loop-i-test.true ∙ ap (puts _) (sym c.put_hex_byte-next.ensures),
-)
-
-pub shape_of-out : goal.shape_of-out
-shape_of-out c =
-    c.loop-i.invariant.0
+pub loop-b-preserved : goal.loop-b-preserved
+loop-b-preserved c =
+    c.loop-b.invariant ∙ hex_next c.args.bytes.now c.loop-b.b-index _ (omega arith) ∙ ap (puts _) (sym c.put_hex_byte-next.ensures)
 
 pub returns : goal.returns
 returns c =
-    sym (c.loop-i.invariant.1 ∙ hex_end _ _ _ c.loop-i-test.false)
+    sym (c.loop-b.invariant ∙ hex_end c.args.bytes.now c.loop-b.b-index _ (omega arith))

@@ -1,23 +1,14 @@
 -- `text_output::output::put_text` meets its contract. Assumes nothing.
-use mathlib.Core.Path.{refl, sym, ap, ◌∙◌}
+use mathlib.Core.Path.{sym, ap, ◌∙◌}
+use native.Mathlib.Omega.{arith}
 use Rattle.text_output.specs.Writing.{puts}
 use Rattle.text_output.proofs.Writing.{text-next, text_end}
 use Rattle.text_output.proofs.output.put_text.Goals as goal
 
-pub loop-i-init : goal.loop-i-init
-loop-i-init c =
-    (refl, refl)
-
-pub loop-i-preserved : goal.loop-i-preserved
-loop-i-preserved c = (
-  c.put-next.auto.out ∙ c.loop-i.invariant.0,
-  c.loop-i.invariant.1 ∙ text-next _ _ _ c.loop-i-test.true ∙ ap (puts _) (sym c.put-next.ensures),
-)
-
-pub shape_of-out : goal.shape_of-out
-shape_of-out c =
-    c.loop-i.invariant.0
+pub loop-b-preserved : goal.loop-b-preserved
+loop-b-preserved c =
+    c.loop-b.invariant ∙ text-next c.args.text.now c.loop-b.b-index _ (omega arith) ∙ ap (puts _) (sym c.put-next.ensures)
 
 pub returns : goal.returns
 returns c =
-    sym (c.loop-i.invariant.1 ∙ text_end _ _ _ c.loop-i-test.false)
+    sym (c.loop-b.invariant ∙ text_end c.args.text.now c.loop-b.b-index _ (omega arith))

@@ -1,7 +1,0 @@
--- `Stored::refused` meets its contract. Assumes nothing.
-use mathlib.Core.Path.{refl}
-use Rattle.commands.proofs.Stored.refused.Goals as goal
-
-pub returns : goal.returns
-returns c =
-    refl

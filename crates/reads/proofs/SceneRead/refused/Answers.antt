@@ -1,7 +1,0 @@
--- `SceneRead::refused` meets its contract. Assumes nothing.
-use mathlib.Core.Path.{refl}
-use Rattle.reads.proofs.SceneRead.refused.Goals as goal
-
-pub returns : goal.returns
-returns c =
-    refl

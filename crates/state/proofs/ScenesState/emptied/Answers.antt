@@ -1,7 +1,0 @@
--- `ScenesState::emptied` meets its contract. Assumes nothing.
-use Rattle.std.proofs.Common.{refl}
-use Rattle.state.proofs.ScenesState.emptied.Goals as goal
-
-pub returns : goal.returns
-returns c =
-    refl

@@ -1,7 +1,0 @@
--- `words::endpoint_of` meets its contract. Assumes nothing.
-use mathlib.Core.Path.{refl}
-use Rattle.words.proofs.endpoint_of.Goals as goal
-
-pub returns : goal.returns
-returns c =
-    refl

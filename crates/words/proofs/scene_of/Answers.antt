@@ -1,7 +1,0 @@
--- `words::scene_of` meets its contract. Assumes nothing.
-use mathlib.Core.Path.{refl}
-use Rattle.words.proofs.scene_of.Goals as goal
-
-pub returns : goal.returns
-returns c =
-    refl
