@@ -7,14 +7,16 @@ ghost use Rattle.slots.specs.Slots.{length_at, fields_at, overlay, slots_of, put
 
 use words::{KeyRange, Limits, Slot};
 
-// Writes a length byte and as many bytes from base on.
+// Writes a length byte and as many bytes from base on. A loop: `copy_from_slice` would have the libraries for C call `memmove`.
 fn put_bytes(fields: &mut [u8], base: usize, ext: &[u8])
     requires ext_len_bound { length ext.now ≤ max_fields }
     requires stride_in_bounds { base + stride ≤ length fields.old }
     ensures { fields.new ≡ overlay base (length_then ext.now) fields.old }
 {
     fields[base] = ext.len() as u8;
-    fields[base + 1..base + 1 + ext.len()].copy_from_slice(ext);
+    for i in 0..ext.len() {
+        fields[base + 1 + i] = ext[i];
+    }
 }
 
 // Writes an entry at a position: its field bytes past the new length stay.

@@ -259,9 +259,10 @@ pub fn list_scenes(keys: &[u64], n: usize, range: KeyRange, ids: &mut [u8]) -> u
         (result ≡ count_keys keys.now n range) × (ids.new ≡ laid listed ids.old) }
 {
     let mut j = 0;
-    for word in &keys[..n] {
-        if range.holds(*word) {
-            ids[j] = words::scene_of(*word);
+    for i in 0..n {
+        let word = keys[i];
+        if range.holds(word) {
+            ids[j] = words::scene_of(word);
             j += 1;
         }
     }

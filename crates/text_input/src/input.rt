@@ -18,13 +18,21 @@ fn is_blank(b: u8) -> bool
     matches!(b, b' ' | b'\t' | b'\r')
 }
 
+// What a line holds from a position on. A slice, since `skip` takes a step for each byte that it passes over.
+pub(crate) fn rest(line: &[u8], at: usize) -> &[u8]
+    ensures { result.now ≡ drop at line.now }
+{
+    &line[at.min(line.len())..]
+}
+
 // The next word from a position on.
 pub fn next_word(line: &[u8], at: usize) -> Span
     ensures { result ≡ word_from line.now at }
 {
-    let from = at + line.iter().skip(at).take_while(|b| is_blank(**b)).count();
-    let rest = line.iter().skip(from);
-    let to = from + rest.take_while(|b| !is_blank(**b)).count();
+    let behind = rest(line, at);
+    let from = at + behind.iter().take_while(|b| is_blank(**b)).count();
+    let word = rest(line, from);
+    let to = from + word.iter().take_while(|b| !is_blank(**b)).count();
     Span { from, to }
 }
 
@@ -32,8 +40,8 @@ pub fn next_word(line: &[u8], at: usize) -> Span
 pub fn part(line: &[u8], from: usize, count: usize) -> &[u8]
     ensures { result.now ≡ take count (drop from line.now) }
 {
-    let rest = &line[from.min(line.len())..];
-    &rest[..count.min(rest.len())]
+    let behind = rest(line, from);
+    &behind[..count.min(behind.len())]
 }
 
 // A decimal number of at most `most`.

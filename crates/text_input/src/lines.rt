@@ -1,7 +1,7 @@
 // Lines out of chunks of input.
 ghost use Rattle.text_input.specs.Gathering.{Gathers};
 
-use crate::input::part;
+use crate::input::{part, rest};
 use text_output::put_text;
 
 // Where the chunk was left, how many bytes the line has so far, and whether its end was met.
@@ -17,7 +17,8 @@ pub struct Gathered {
 pub fn gather(chunk: &[u8], from: usize, line: &mut [u8], held: usize) -> Gathered
     ensures { Gathers chunk.now from line.old held line.new result }
 {
-    let end = from + chunk.iter().skip(from).take_while(|b| **b != b'\n').count();
+    let behind = rest(chunk, from);
+    let end = from + behind.iter().take_while(|b| **b != b'\n').count();
     let ended = end < chunk.len();
     Gathered {
         next: if ended { end + 1 } else { end },

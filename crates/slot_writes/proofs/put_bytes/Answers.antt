@@ -1,13 +1,25 @@
--- `slot_writes::put_bytes` meets its contract. Assumes nothing.
-use Rattle.std.proofs.Common.{length, set, ◌+◌, ◌∙◌, arith}
-use Rattle.std.proofs.lemmas.Slice.{put_mid-paste}
-use Rattle.slots.proofs.Laws.{paste_overlay, overlay-set}
+-- `slot_writes::put_bytes` meets its contract: the first i bytes are copied behind the length byte. Assumes nothing.
+use mathlib.Core.Path.{◌∙◌}
+use native.Mathlib.Omega.{arith}
+use lib.ListN.{length, length-set}
+use Rattle.slots.proofs.Laws.{copied_none, copied_more, copied_all, overlay-set}
 use Rattle.slot_writes.proofs.put_bytes.Goals as goal
+
+pub loop-i-init : goal.loop-i-init
+loop-i-init c =
+    let a = c.args in
+    copied_none _ _ _ (omega (arith, length-set a.fields.now a.base (length a.ext.now)))
+
+pub bounds-fields-base-in-loop-i : goal.bounds-fields-base-in-loop-i
+bounds-fields-base-in-loop-i c =
+    let a = c.args in
+    omega (arith, length-set a.fields.now a.base (length a.ext.now))
+
+pub loop-i-preserved : goal.loop-i-preserved
+loop-i-preserved c =
+    copied_more c.loop-i.invariant (omega arith)
 
 pub returns : goal.returns
 returns c =
     let a = c.args in
-    let n = length a.ext.now in
-    put_mid-paste (a.base + 1) _ _ _ a.ext.now n c.copy_from_slice.ensures.after (omega arith) (omega arith)
-    ∙ paste_overlay (set a.fields.now a.base n) a.ext.now (a.base + 1)
-    ∙ overlay-set a.fields.now a.ext.now a.base n (omega arith)
+    copied_all c.loop-i.invariant c.loop-i-test.false ∙ overlay-set a.fields.now a.ext.now a.base (length a.ext.now) (omega arith)

@@ -48,5 +48,5 @@ module _ {keys : List ℕ} {n : ℕ} {r : KeyRange} {ids₀ ids : List ℕ} {i j
         listed = t.listed ∙ ap (λ (x : List ℕ). laid x ids₀) (sym q);
       }
 
-abbrev pub invariant-loop-word : goal.invariant-loop-word
-invariant-loop-word l = Turn l.keys l.n l.range l.initial.ids l.ids l.word-index l.j
+abbrev pub invariant-loop-i : goal.invariant-loop-i
+invariant-loop-i l = Turn l.keys l.n l.range l.initial.ids l.ids l.i l.j

@@ -5,7 +5,6 @@ use mathlib.Core.Path.{◌≡◌, ◌∙◌}
 use lib.ListN.{drop}
 use Rattle.std.proofs.lemmas.Iterator.{YieldsList-from_slice}
 use Rattle.std.proofs.lemmas.Iterator.Consumers.{count_from_yields_List, YieldsList-at}
-use Rattle.std.proofs.lemmas.Iterator.Adapters.{YieldsList-from_skip}
 use Rattle.std.proofs.lemmas.Iterator.Search.{YieldsList-from_take_while}
 use Rattle.std.proofs.lemmas.List.Folds.{length-prefix_len}
 use Rattle.std.specs.List.{prefix_len}
@@ -18,12 +17,12 @@ returns c =
     let at = c.args.at in
     let from : c.count.result ≡ prefix_len blank (drop at line) =
     count_from_yields_List c.take_while.result _ c.count.ensures.ran
-    (YieldsList-from_take_while _ blank (YieldsList-at c.take_while.ensures.source (YieldsList-from_skip at (YieldsList-from_slice line cc) cc))
+    (YieldsList-from_take_while _ blank (YieldsList-at c.take_while.ensures.source (YieldsList-from_slice (drop at line) cc))
     c.take_while.ensures.closure c.take_while.ensures.done (λ x b q k. search (rules, tests)))
     ∙ length-prefix_len blank (drop at line) in
     let to : c.count-2.result ≡ prefix_len in_word (drop (at + c.count.result) line) =
     count_from_yields_List c.take_while-2.result _ c.count-2.ensures.ran
-    (YieldsList-from_take_while _ in_word (YieldsList-at c.take_while-2.ensures.source (YieldsList-from_skip (at + c.count.result) (YieldsList-from_slice line cc) cc))
+    (YieldsList-from_take_while _ in_word (YieldsList-at c.take_while-2.ensures.source (YieldsList-from_slice (drop (at + c.count.result) line) cc))
     c.take_while-2.ensures.closure c.take_while-2.ensures.done (λ x b q k. search (rules, tests)))
     ∙ length-prefix_len in_word (drop (at + c.count.result) line) in
     rw (to, from)

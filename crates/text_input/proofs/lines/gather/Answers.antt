@@ -9,7 +9,6 @@ use borrow.Author.Tests.{lt-ltb, le-ltb}
 use Rattle.std.proofs.Common.{rules, tests}
 use Rattle.std.proofs.lemmas.Iterator.{YieldsList-from_slice}
 use Rattle.std.proofs.lemmas.Iterator.Consumers.{count_from_yields_List, YieldsList-at}
-use Rattle.std.proofs.lemmas.Iterator.Adapters.{YieldsList-from_skip}
 use Rattle.std.proofs.lemmas.Iterator.Search.{YieldsList-from_take_while}
 use Rattle.std.proofs.lemmas.List.{drop-take}
 use Rattle.std.proofs.lemmas.List.Folds.{length-prefix_len}
@@ -25,7 +24,7 @@ returns c =
     let from = c.args.from in
     let run : c.count.result ≡ prefix_len in_line (drop from chunk) =
     count_from_yields_List c.take_while.result _ c.count.ensures.ran
-    (YieldsList-from_take_while _ in_line (YieldsList-at c.take_while.ensures.source (YieldsList-from_skip from (YieldsList-from_slice chunk cc) cc))
+    (YieldsList-from_take_while _ in_line (YieldsList-at c.take_while.ensures.source (YieldsList-from_slice (drop from chunk) cc))
     c.take_while.ensures.closure c.take_while.ensures.done (λ x b q k. search (rules, tests)))
     ∙ length-prefix_len in_line (drop from chunk) in
     let end : from + c.count.result ≡ line_end chunk from = ap (λ (n : ℕ). from + n) run in
